@@ -51,7 +51,7 @@ more_in logs i whole log long lt h k =
     subst (λ (b : List ℕ). IsWholeLog (1 + length (take i logs)) b log) (log_at logs i) (subst (λ (n : ℕ). IsWholeLog n (log_of logs (i + 1)) log) (let e : i + 1 ≡ 1 + length (take i logs) = omega (arith, count) in e) k) in
     subst (λ (l : List (List ℕ)). AreWholeLogs 1 l (whole ++ log ∷ [])) (sym (take_more logs i [] (omega (arith, long, lt)))) (whole_more 1 (take i logs) whole (get_or logs i []) log h here)
 
-broken_in : (logs : List (List ℕ)) (i at : ℕ) (whole : List Log) → length logs ≡ 32 → i < 32 → AreWholeLogs 1 (take i logs) whole → BreaksOff (log_of logs (i + 1)) at → IsFirstBroken logs (i + 1) at
+pub broken_in : (logs : List (List ℕ)) (i at : ℕ) (whole : List Log) → length logs ≡ 32 → i < 32 → AreWholeLogs 1 (take i logs) whole → BreaksOff (log_of logs (i + 1)) at → IsFirstBroken logs (i + 1) at
 broken_in logs i at whole long lt h off = record {
   front = take i logs;
   bytes = log_of logs (i + 1);

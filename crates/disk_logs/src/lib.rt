@@ -8,7 +8,7 @@ mod log;
 mod logs;
 mod merged;
 
-pub use ends::find_ends;
+pub use ends::{Ends, find_all_ends, find_ends};
 pub use laws::broken_laws;
 pub use log::{Looked, whole_log};
 pub use logs::{Found, LogList, read_logs};

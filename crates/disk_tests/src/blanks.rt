@@ -1,5 +1,6 @@
 use ds_base::TableId;
 use page_format::Page;
+use redone_pages::{RedonePages, TableRange};
 use std::test::Fail;
 use table_images::{heap_end, heap_page_stands, index_end, index_page_stands, is_blank};
 
@@ -13,6 +14,11 @@ fn no_records_leave_no_pages(rt: HostRuntime) -> Result<(), Fail> {
             && heap_page_stands(&page, table.heap_page(0), 0, 0)
             && index_page_stands(&page, table.index_page(0), false, 0)
     );
-    assert!(rt; heap_end(table, &[], 0) == 1 && index_end(table, &[], 0) == 2);
+    let range = TableRange {
+        first: table,
+        last: table,
+    };
+    let made = RedonePages::new(alloc, range);
+    assert!(rt; heap_end(table, &made, 0) == 1 && index_end(table, &made, 0) == 2);
     Ok(())
 }

@@ -3,8 +3,6 @@
 #![tactic(auto)]
 
 #[cfg(test)]
-mod befores;
-#[cfg(test)]
 mod blanks;
 #[cfg(test)]
 mod checkpoints;

@@ -2,11 +2,12 @@ ghost use Rattle.std.specs.List.{AllByRecursion};
 ghost use Rattle.ds_model.specs.RecordBytes.{IsAllowed};
 ghost use Rattle.log_record.specs.declared.log.Log.{Log};
 
-use crate::records::{Told, log, second_log};
-use disk_spots::Spot;
+use crate::records::{Told, log};
+use ds_base::{Lrsn, TableId};
 use log_merge::merge;
 use log_record::Log;
-use row_turns::{find_out_of_turn, turn_spot};
+use redone_pages::TableRange;
+use row_turns::Turns;
 use std::alloc::Global;
 use std::test::Fail;
 
@@ -14,15 +15,24 @@ fn change(lrsn: u128, tran: u128, key: u64) -> (u128, u128, Told) {
     (lrsn, tran, Told::Change { key, page: 1 })
 }
 
-/// The first record of the logs, by its number, that is out of turn.
-fn found_in(alloc: Global, logs: &[Log]) -> Result<Option<Spot>, Fail>
+/// The number of the first record of the logs that is out of turn.
+fn found_in(alloc: Global, logs: &[Log]) -> Result<Option<Lrsn>, Fail>
     requires { AllByRecursion (λ (l : Log). AllByRecursion IsAllowed l.records) logs.now }
 {
     let merged = merge(alloc, logs)?;
-    let Some(number) = find_out_of_turn(alloc, merged.records())? else {
-        return Ok(None);
+    let range = TableRange {
+        first: TableId::new(1).unwrap(),
+        last: TableId::new(64).unwrap(),
     };
-    Ok(Some(turn_spot(logs, number)?))
+    let mut turns = Turns::new(alloc, range, false);
+    for it in merged.records() {
+        turns.take(it)?;
+    }
+    let told = turns.told(alloc)?;
+    match told.out {
+        None => Ok(None),
+        Some(out) => Ok(Some(out.number)),
+    }
 }
 
 #[test]
@@ -40,6 +50,9 @@ fn a_row_that_another_holds_is_out_of_turn(rt: HostRuntime) -> Result<(), Fail> 
     let first = log(alloc, 1, &[change(1, 1, 10), change(3, 1, 11)])?;
     let later = [change(2, 2, 12), change(4, 2, 10), change(5, 2, 11)];
     let second = log(alloc, 2, &later)?;
-    assert!(rt; found_in(alloc, &[first, second])? == Some(second_log(49)));
+    match found_in(alloc, &[first, second])? {
+        Some(number) => assert!(rt; number.number() == 4),
+        None => assert!(rt; false),
+    }
     Ok(())
 }

@@ -1,11 +1,10 @@
-ghost use Rattle.std.specs.List.{AllByRecursion};
-ghost use Rattle.ds_model.specs.RecordBytes.{IsAllowed};
+ghost use Rattle.std.specs.Prelude.{◌≡◌};
 
 use crate::disks::{disk_with, empty_disk};
-use disk_versions::{Placing, find_unplaced};
-use ds_base::PageId;
+use disk_versions::{MetPages, Placing, check_range};
+use ds_base::{PageId, TableId};
 use ds_disk::MemoryDisk;
-use ds_model::LogRecord;
+use redone_pages::TableRange;
 use std::alloc::Global;
 use std::test::Fail;
 
@@ -16,22 +15,26 @@ fn stray_disk(alloc: Global) -> Result<MemoryDisk, Fail> {
     disk_with(alloc, ID, &[1; 4096])
 }
 
-/// What is found by these records, where so many pages are read behind the last one.
-fn found_by(
-    alloc: Global,
-    disk: &mut MemoryDisk,
-    records: &[LogRecord],
-    behind: u32,
-) -> Result<Placing, Fail>
-    requires { AllByRecursion IsAllowed records.now }
+/// The table of the page.
+fn its_table() -> TableId
+    ensures { result ≡ 2 }
 {
-    Ok(find_unplaced(alloc, disk, records, false, behind)?)
+    match TableId::new(2) {
+        Some(table) => table,
+        None => unreachable!(),
+    }
 }
 
-/// What is found on the disk without records.
+/// What is found on the disk of this table without records, where so many pages are read behind the last one.
 fn found_on(alloc: Global, disk: MemoryDisk, behind: u32) -> Result<Placing, Fail> {
     let mut disk = disk;
-    found_by(alloc, &mut disk, &[], behind)
+    let table = its_table();
+    let range = TableRange {
+        first: table,
+        last: table,
+    };
+    let met = MetPages::new(alloc, range);
+    Ok(check_range(alloc, &mut disk, &met, false, behind)?)
 }
 
 #[test]

@@ -1,13 +1,15 @@
 -- One page more of a page set.
-use Rattle.std.proofs.Common.{◌≡◌, ◌↔◌, ℕ, ◌+◌, ◌<◌, ◌≤◌, Bool, true, false, not, List, Option, Some, None, refl, sym, ap, subst, ◌∙◌, arith, add-one}
-use Rattle.std.specs.Prelude.{nat_lt, IsTrue}
+use Rattle.std.proofs.Common.{◌≡◌, ◌↔◌, ℕ, zero, suc, ◌+◌, ◌<◌, ◌≤◌, Bool, true, false, not, List, [], ◌∷◌, length, replicate, Option, Some, None, refl, sym, ap, subst, ◌∙◌, arith, add-one}
+use Rattle.std.specs.Prelude.{nat_lt, ◌==◌, ◌&&◌, IsTrue}
 use Rattle.std.proofs.lemmas.Bool.Decides.{nat_tests}
 use Rattle.ds_base.specs.declared.names.PageId.{PageId}
 use Rattle.ds_disk.specs.Contents.{Contents, WhenTold, Becomes, Same}
 use Rattle.ds_disk.specs.Pages.{page_at}
 use Rattle.ds_model.specs.declared.log.LogRecord.{LogRecord}
 use Rattle.page_format.specs.Header.{is_zeros, header_of}
-use Rattle.page_images.specs.Images.{Images}
+use Rattle.page_format.specs.Fields.{page_size}
+use Rattle.index_leaf.specs.Changes.{zeros as zero_bytes}
+use Rattle.page_images.specs.Images.{Images, zeros}
 use Rattle.page_versions.specs.Fronts.{IsPlaced}
 use Rattle.disk_versions.specs.Ends.{page_of, last_by_header, last_in_records, end_of, pages_read}
 use Rattle.disk_versions.specs.Placing.{IsJudged, count_with, written_in, AreUpTo, AreInSet, IsFirstInSet, IsSetTold}
@@ -18,6 +20,14 @@ use Rattle.disk_versions.proofs.Reading.{told_before, told_by_both}
 pub decide : (b : Bool) (P : Type 0) → (b ≡ true → P) → (b ≡ false → P) → P
 decide true P f g = f refl
 decide false P f g = g refl
+
+and_left : (a b : Bool) → (a && b) ≡ true → a ≡ true
+and_left true b h = refl
+and_left false b h = h
+
+and_right : (a b : Bool) → (a && b) ≡ true → b ≡ true
+and_right true b h = h
+and_right false b h = absurd cc
 
 below : (k n : ℕ) → nat_lt k n ≡ true → k < n
 below k n h = grind (arith, nat_tests)
@@ -62,30 +72,28 @@ count_if n pages false le = omega (arith, le)
 pub count_up : (n pages more : ℕ) (w : Bool) → more ≡ count_with pages w → pages ≤ n → more ≤ n + 1
 count_up n pages more w e le = let up = count_if n pages w le in omega (arith, e, up)
 
--- ---- over what the disk told
+-- ---- a page that was never written
 
-abbrev JudgedAt : ℕ → ℕ → List LogRecord → Bool → Judged → Contents → Type 0
-JudgedAt set n records renews j c = IsJudged (page_of set n) records renews (page_at c.pages (page_of set n)) j
+equal : (m n : ℕ) → (m == n) ≡ true → m ≡ n
+equal m n h = grind (arith, nat_tests)
 
-abbrev InSetAt : List LogRecord → Bool → ℕ → ℕ → ℕ → Contents → Type 0
-InSetAt records renews set n pages c = AreInSet (page_at c.pages) records renews set n pages
+all_zero : (page : List ℕ) → is_zeros page ≡ true → page ≡ replicate (length page) 0
+all_zero [] h = refl
+all_zero (x ∷ xs) h = ap (λ (y : ℕ). y ∷ xs) (equal x 0 (and_left (x == 0) (is_zeros xs) h)) ∙ ap (λ (ys : List ℕ). 0 ∷ ys) (all_zero xs (and_right (x == 0) (is_zeros xs) h))
 
-abbrev FirstAt : List LogRecord → Bool → ℕ → ℕ → ℕ → Contents → Type 0
-FirstAt records renews set end n c = IsFirstInSet (page_at c.pages) records renews set end (page_of set n)
+zeros_all : (n : ℕ) → is_zeros (replicate n 0) ≡ true
+zeros_all zero = refl
+zeros_all (suc n) = zeros_all n
 
-pub page_told : (start now : Option Contents) (records : List LogRecord) (renews : Bool) (set n pages more : ℕ) (j : Judged) → Becomes start now Same → j.is_placed ≡ true → more ≡ count_with pages j.is_written
-    → WhenTold start (InSetAt records renews set n pages) → WhenTold now (JudgedAt set n records renews j) → WhenTold start (InSetAt records renews set (n + 1) more)
-page_told start now records renews set n pages more j s placed m h k =
-    told_by_both start (JudgedAt set n records renews j) (InSetAt records renews set n pages) (InSetAt records renews set (n + 1) more)
-    (λ c is all. page_more (page_at c.pages) records renews set n pages more j is placed m all)
-    (told_before start now (JudgedAt set n records renews j) s k) h
+blank : replicate page_size 0 ≡ zeros
+unfolding zero_bytes
+blank = refl
 
-pub wrong_told : (start now : Option Contents) (records : List LogRecord) (renews : Bool) (set n end pages : ℕ) (j : Judged) → Becomes start now Same → n < end → j.is_placed ≡ false
-    → WhenTold start (InSetAt records renews set n pages) → WhenTold now (JudgedAt set n records renews j) → WhenTold start (FirstAt records renews set end n)
-wrong_told start now records renews set n end pages j s lt wrong h k =
-    told_by_both start (JudgedAt set n records renews j) (InSetAt records renews set n pages) (FirstAt records renews set end n)
-    (λ c is all. page_wrong (page_at c.pages) records renews set n end pages j lt is wrong all)
-    (told_before start now (JudgedAt set n records renews j) s k) h
+pub blank_is : (page : List ℕ) (b : Bool) → b ≡ is_zeros page → length page ≡ page_size → IsTrue b ↔ (page ≡ zeros)
+blank_is page b is long = (
+  (λ t. all_zero page (sym is ∙ t) ∙ ap (λ (n : ℕ). replicate n 0) long ∙ blank),
+  (λ e. is ∙ ap is_zeros (e ∙ sym blank) ∙ zeros_all page_size),
+)
 
 -- ---- a page as it was read
 
@@ -111,13 +119,3 @@ pub end_told : (before after : Option Contents) (records : List LogRecord) (set 
 end_told None after records set behind end page b e = tt
 end_told (Some c) None records set behind end page b e = absurd b
 end_told (Some c) (Some d) records set behind end page b e = e ∙ ap (λ (q : List ℕ). end_of (last_by_header (header_of q (page_of set 0)) q) (last_in_records set 0 records) behind) b.1
-
--- what was found up to an end is found up to the same end
-pub ends_at : (start now : Option Contents) (records : List LogRecord) (renews : Bool) (set behind end : ℕ) (found : Placing) → Becomes start now Same
-    → WhenTold start (λ (c : Contents). end ≡ pages_read (page_at c.pages) records behind set) → WhenTold now (λ (c : Contents). IsSetTold (page_at c.pages) records renews set end found)
-    → WhenTold start (λ (c : Contents). IsSetTold (page_at c.pages) records renews set (pages_read (page_at c.pages) records behind set) found)
-ends_at start now records renews set behind end found s e k =
-    told_by_both start (λ (c : Contents). end ≡ pages_read (page_at c.pages) records behind set) (λ (c : Contents). IsSetTold (page_at c.pages) records renews set end found)
-    (λ (c : Contents). IsSetTold (page_at c.pages) records renews set (pages_read (page_at c.pages) records behind set) found)
-    (λ c is told. subst (λ (n : ℕ). IsSetTold (page_at c.pages) records renews set n found) is told)
-    e (told_before start now (λ (c : Contents). IsSetTold (page_at c.pages) records renews set end found) s k)

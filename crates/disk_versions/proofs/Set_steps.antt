@@ -54,55 +54,8 @@ set_wrong at records renews behind n sets pages id lt h k = record {
   sets_before = λ other less r. h.each other (record { set_from = r.set_from; set_to = omega (arith, k.set_is, less); number_in = r.number_in });
 }
 
--- ---- over what the disk told
-
-abbrev InSetsAt : List LogRecord → Bool → ℕ → ℕ → ℕ → Contents → Type 0
-InSetsAt records renews behind n pages c = AreInSets (page_at c.pages) records renews behind n pages
-
-abbrev InNextAt : List LogRecord → Bool → ℕ → ℕ → ℕ → Contents → Type 0
-InNextAt records renews behind n more c = AreInSet (page_at c.pages) records renews (n + 1) (pages_read (page_at c.pages) records behind (n + 1)) more
-
-abbrev FirstInNextAt : List LogRecord → Bool → ℕ → ℕ → PageId → Contents → Type 0
-FirstInNextAt records renews behind n id c = IsFirstInSet (page_at c.pages) records renews (n + 1) (pages_read (page_at c.pages) records behind (n + 1)) id
-
-abbrev FirstInSetsAt : List LogRecord → Bool → ℕ → ℕ → PageId → Contents → Type 0
-FirstInSetsAt records renews behind sets id c = IsFirstInSets (page_at c.pages) records renews behind sets id
-
-pub set_told : (start now : Option Contents) (records : List LogRecord) (renews : Bool) (behind n pages more : ℕ) → Becomes start now Same
-    → WhenTold start (InSetsAt records renews behind n pages) → WhenTold now (InNextAt records renews behind n more) → WhenTold start (InSetsAt records renews behind (n + 1) (pages + more))
-set_told start now records renews behind n pages more s h k =
-    told_by_both start (InSetsAt records renews behind n pages) (InNextAt records renews behind n more) (InSetsAt records renews behind (n + 1) (pages + more))
-    (λ c all next. set_more (page_at c.pages) records renews behind n pages more all next)
-    h (told_before start now (InNextAt records renews behind n more) s k)
-
-pub set_wrong_told : (start now : Option Contents) (records : List LogRecord) (renews : Bool) (behind n sets pages : ℕ) (id : PageId) → Becomes start now Same → n < sets
-    → WhenTold start (InSetsAt records renews behind n pages) → WhenTold now (FirstInNextAt records renews behind n id) → WhenTold start (FirstInSetsAt records renews behind sets id)
-set_wrong_told start now records renews behind n sets pages id s lt h k =
-    told_by_both start (InSetsAt records renews behind n pages) (FirstInNextAt records renews behind n id) (FirstInSetsAt records renews behind sets id)
-    (λ c all next. set_wrong (page_at c.pages) records renews behind n sets pages id lt all next)
-    h (told_before start now (FirstInNextAt records renews behind n id) s k)
-
--- ---- in the terms of what was found
-
-abbrev FoundIn : List LogRecord → Bool → ℕ → ℕ → Placing → Contents → Type 0
-FoundIn records renews behind n found c = IsSetTold (page_at c.pages) records renews (n + 1) (pages_read (page_at c.pages) records behind (n + 1)) found
-
-pub set_found : (start now : Option Contents) (records : List LogRecord) (renews : Bool) (behind n pages more : ℕ) (found : Placing) → found ≡ placing.All more → Becomes start now Same
-    → WhenTold start (InSetsAt records renews behind n pages) → WhenTold now (FoundIn records renews behind n found) → WhenTold start (InSetsAt records renews behind (n + 1) (pages + more))
-set_found start now records renews behind n pages more found e s h k =
-    set_told start now records renews behind n pages more s h (subst (λ (f : Placing). WhenTold now (FoundIn records renews behind n f)) e k)
-
-pub wrong_found : (start now : Option Contents) (records : List LogRecord) (renews : Bool) (behind n sets pages : ℕ) (id : PageId) (found : Placing) → found ≡ placing.Unplaced id → Becomes start now Same → n < sets
-    → WhenTold start (InSetsAt records renews behind n pages) → WhenTold now (FoundIn records renews behind n found) → WhenTold start (FirstInSetsAt records renews behind sets id)
-wrong_found start now records renews behind n sets pages id found e s lt h k =
-    set_wrong_told start now records renews behind n sets pages id s lt h (subst (λ (f : Placing). WhenTold now (FoundIn records renews behind n f)) e k)
-
 count_in : (most more : ℕ) (found : Placing) → found ≡ placing.All more → IsCountUpTo most found → more ≤ most
 count_in most more found e h = subst (λ (f : Placing). IsCountUpTo most f) e h
 
 pub count_on : (n pages more : ℕ) (found : Placing) → found ≡ placing.All more → IsCountUpTo (2 ^ 32) found → pages ≤ n * 2 ^ 32 → pages + more ≤ (n + 1) * 2 ^ 32
 count_on n pages more found e h le = let m = count_in (2 ^ 32) more found e h in omega (arith, le, m)
-
-pub all_found : (start : Option Contents) (records : List LogRecord) (renews : Bool) (behind n sets pages : ℕ) → n ≡ sets → WhenTold start (InSetsAt records renews behind n pages)
-    → WhenTold start (InSetsAt records renews behind sets pages)
-all_found start records renews behind n sets pages e h = subst (λ (m : ℕ). WhenTold start (InSetsAt records renews behind m pages)) e h

@@ -15,7 +15,8 @@ use Rattle.sound_disk.specs.Versions.{merged, is_page, current, MayStand}
 use Rattle.page_versions.specs.Fronts.{IsPlaced, PlacedMayStand}
 use Rattle.disk_versions.specs.Ends.{page_of, pages_read, IsRead}
 use Rattle.disk_versions.specs.Placing.{AreInSets, IsFirstInSets, AreSetsTold}
-use Rattle.disk_versions.specs.Told.{page_sets, IsReadOf, IsBefore, AreAllPlaced, IsFirstUnplaced, IsTold, AreToldBy}
+use Rattle.disk_versions.specs.Told.{page_sets, IsReadOf, IsBefore, AreAllPlaced, IsFirstUnplaced, IsTold}
+use Rattle.disk_versions.specs.Ranged.{NoneUnplaced}
 use Rattle.disk_versions.specs.declared.set.Placing.{Placing}
 use Rattle.disk_versions.specs.declared.set.Placing.TheVariants as placing
 use Rattle.disk_versions.proofs.Reading.{told_by}
@@ -64,6 +65,9 @@ by_reading at records behind sets id P f g =
     (λ b. g (λ r. not_le id.set sets b r.set_to)))
     (λ a. g (λ r. not_le 1 id.set a r.set_from))
 
+nothing_read : (set : ℕ) → 1 ≤ set → set ≤ 0 → ⊥
+nothing_read set from to = omega (arith, from, to)
+
 -- ---- what is told
 
 pub all_told : IsKnown → (at : Images) (logs : List Log) (behind pages : ℕ) → AreInSets at (merged logs) (must_renew logs) behind page_sets pages → AreAllPlaced at logs behind pages
@@ -92,23 +96,9 @@ first_told k at logs behind id h = record {
   first = λ other less r. (k.stand logs other (at other)).0 (before_in at logs behind id other h less r);
 }
 
-is_told : IsKnown → (at : Images) (logs : List Log) (behind : ℕ) (found : Placing) → AreSetsTold at (merged logs) (must_renew logs) behind page_sets found → IsTold at logs behind found
+pub is_told : IsKnown → (at : Images) (logs : List Log) (behind : ℕ) (found : Placing) → AreSetsTold at (merged logs) (must_renew logs) behind page_sets found → IsTold at logs behind found
 is_told k at logs behind (placing.All pages) h = all_told k at logs behind pages h
 is_told k at logs behind (placing.Unplaced id) h = first_told k at logs behind id h
 
-abbrev SetsAt : List LogRecord → Bool → ℕ → Placing → Contents → Type 0
-SetsAt records renews behind found c = AreSetsTold (page_at c.pages) records renews behind 128 found
-
-by_records : IsKnown → (at : Images) (records : List LogRecord) (renews : Bool) (behind : ℕ) (found : Placing) → AreSetsTold at records renews behind page_sets found → AreToldBy at records renews behind found
-by_records k at records renews behind found h = λ logs r n.
-    is_told k at logs behind found
-    (subst (λ (b : Bool). AreSetsTold at (merged logs) b behind page_sets found) n (subst (λ (rs : List LogRecord). AreSetsTold at rs renews behind page_sets found) r h))
-
-abbrev TellsBy : List LogRecord → Bool → ℕ → Placing → Contents → Type 0
-TellsBy records renews behind found c = AreToldBy (page_at c.pages) records renews behind found
-
-pub told : IsKnown → {E : Type 0} (start : Option Contents) (records : List LogRecord) (renews : Bool) (behind : ℕ) (result : Result Placing E)
-    → IfOk result (λ found. WhenTold start (SetsAt records renews behind found)) → IfOk result (λ found. WhenTold start (TellsBy records renews behind found))
-told k start records renews behind (Err e) h = tt
-told k start records renews behind (Ok found) h =
-    told_by start (SetsAt records renews behind found) (TellsBy records renews behind found) (λ c s. by_records k (page_at c.pages) records renews behind found s) h
+pub none_unplaced : NoneUnplaced
+none_unplaced at records renews behind = record { each = λ id r. absurd (nothing_read id.set r.set_from r.set_to); count = refl }

@@ -7,26 +7,12 @@ use Rattle.page_format.specs.declared.header.Header.{Header}
 use Rattle.page_format.specs.declared.header.NotAPage.{NotAPage}
 use Rattle.page_format.specs.declared.header.PageKind.{PageKind}
 use Rattle.page_format.specs.declared.header.PageKind.TheVariants as kind
-use Rattle.page_format.specs.declared.patch.Patch.{Patch}
 use Rattle.heap_space.specs.Next.{last_page_of}
 use Rattle.index_leaf.specs.Changes.{next_page_of}
 use Rattle.page_images.specs.Images.{Images}
-use Rattle.page_chain.specs.Chains.{changes_of}
-
--- ---- by the records
-
--- the page's number, where it is the set's and greater
-abbrev pub last_with : ℕ → ℕ → PageId → ℕ
-last_with set last id = if (id.set == set) && nat_lt last id.number then id.number else last
-
-abbrev pub last_in_patches : ℕ → ℕ → List Patch → ℕ
-last_in_patches set last [] = last
-last_in_patches set last (p ∷ ps) = last_in_patches set (last_with set last p.page) ps
-
--- the greatest number of a page of the set that the records change, or this one
-abbrev pub last_in_records : ℕ → ℕ → List LogRecord → ℕ
-last_in_records set last [] = last
-last_in_records set last (r ∷ rs) = last_in_records set (last_in_patches set last (changes_of r.body)) rs
+use Rattle.redone_pages.specs.Lasts.{last_in_records}
+-- given out again: the last page of a page set that records change
+pub use Rattle.redone_pages.specs.Lasts.{last_with, last_in_patches, last_in_records}
 
 -- ---- by the header page
 

@@ -41,11 +41,3 @@ pub record IsFirstUnplaced (at : Images) (logs : List Log) (behind : ℕ) (id : 
 abbrev pub IsTold : Images → List Log → ℕ → Placing → Type 0
 IsTold at logs behind (placing.All pages) = AreAllPlaced at logs behind pages
 IsTold at logs behind (placing.Unplaced id) = IsFirstUnplaced at logs behind id
-
--- the same of the logs of which these are the merged records, and whose pages are still to be renewed, or not
-abbrev pub AreToldBy : Images → List LogRecord → Bool → ℕ → Placing → Type 0
-AreToldBy at records renews behind found = (logs : List Log) → records ≡ merged logs → renews ≡ must_renew logs → IsTold at logs behind found
-
--- where each page that is read may stand there by the merged records, so it is told of their logs
-abbrev pub SetsTell : Type 0
-SetsTell = (at : Images) (logs : List Log) (behind pages : ℕ) → AreInSets at (merged logs) (must_renew logs) behind page_sets pages → AreAllPlaced at logs behind pages

@@ -2,12 +2,15 @@
 #![tactic(auto)]
 
 mod ends;
+mod laws;
+mod met;
 mod page;
-mod renewal;
+mod placed;
+mod range;
 mod set;
-mod sets;
 
-pub use ends::{BEHIND, end_of, last_in_records};
-pub use renewal::must_renew;
-pub use set::{Placing, check_set};
-pub use sets::{find_unplaced, sets_laws};
+pub use ends::{BEHIND, end_of};
+pub use laws::placing_laws;
+pub use met::{Mark, MetPages};
+pub use range::check_range;
+pub use set::Placing;

@@ -1,21 +1,13 @@
-ghost use Rattle.std.specs.Prelude.{◌≡◌};
-ghost use Rattle.std.specs.List.{AllByRecursion};
+ghost use Rattle.std.specs.Prelude.{◌≡◌, ◌↔◌, IsTrue};
 ghost use Rattle.ds_disk.specs.Answers.{Answers, HasCause};
 ghost use Rattle.ds_disk.specs.Contents.{Same};
 ghost use Rattle.ds_disk.specs.Pages.{page_at};
-ghost use Rattle.ds_model.specs.RecordBytes.{IsAllowed};
 ghost use Rattle.page_format.specs.Header.{is_zeros};
-ghost use Rattle.page_records.specs.Places.{by_page};
-ghost use Rattle.disk_versions.specs.Reading.{Reads};
-ghost use Rattle.disk_versions.specs.Placing.{IsJudged};
+ghost use Rattle.page_images.specs.Images.{zeros};
 
 use ds_base::PageId;
 use ds_disk::{Disk, DiskError};
-use log_record::LogRecord;
 use page_format::Page;
-use page_records::PageRecords;
-use page_versions::is_placed;
-use std::alloc::Global;
 
 /// Reads the page from the disk.
 pub fn load<D: Disk>(disk: &mut D, id: PageId, page: &mut Page) -> Result<(), DiskError>
@@ -26,10 +18,20 @@ pub fn load<D: Disk>(disk: &mut D, id: PageId, page: &mut Page) -> Result<(), Di
     Ok(())
 }
 
-fn is_blank(page: &Page) -> bool
+/// Whether all its bytes are zeros.
+pub fn is_blank(page: &Page) -> bool
     ensures { result ≡ is_zeros page.now }
 {
     page.bytes().iter().all(|byte| *byte == 0)
+}
+
+/// Whether the page is one that was never written.
+#[tactic(auto, using(crate::proofs::Pages::blank_is))]
+pub fn is_zero(page: &Page) -> bool
+    ensures { IsTrue result ↔ (page.now ≡ zeros) }
+{
+    let _bytes = page.bytes();
+    is_blank(page)
 }
 
 /// What is found of a page: whether it may stand there, and whether it is more than zeros.
@@ -37,27 +39,4 @@ fn is_blank(page: &Page) -> bool
 pub struct Judged {
     pub is_placed: bool,
     pub is_written: bool,
-}
-
-/// Reads the page and tells of it. `changed` are the pages that the records change.
-pub fn judge<D: Disk>(
-    alloc: Global,
-    disk: &mut D,
-    page: &mut Page,
-    id: PageId,
-    records: &[LogRecord],
-    changed: &[PageRecords],
-    renews: bool,
-) -> Result<Judged, DiskError>
-    requires allowed { AllByRecursion IsAllowed records.now }
-    requires changed_pages { changed.now ≡ by_page records.now }
-    ensures { Reads (D.contents disk.old) (D.contents disk.new) (D.faults disk.old) (D.faults disk.new) (λ j c. IsJudged id records.now renews (page_at c.pages id) j) result }
-{
-    load(disk, id, page)?;
-    let is_written = !is_blank(page);
-    let is_placed = is_placed(alloc, id, records, changed, renews, page)?;
-    Ok(Judged {
-        is_placed,
-        is_written,
-    })
 }

@@ -2,3 +2,5 @@ pub mod Reading
 mod Standing
 mod Walking
 mod Begins
+pub mod One
+pub mod Whole

@@ -13,6 +13,7 @@ use Rattle.fitting_records.specs.declared.seen.Seen.{Seen}
 use Rattle.fitting_records.specs.Breaches.{cut_to, IsFirstBreach, IsRecordOf}
 use Rattle.fitting_records.specs.Fitting.{nothing_seen, fits, seen_with, behind_log, fitted_from, goes_on, unfit_among}
 use Rattle.fitting_records.proofs.Knowing.{Knows, knows_none, knows_more, knows_behind, stands_where_it_fits, fits_where_it_stands}
+use Rattle.fitting_records.specs.Telling.{AreFitTold}
 use Rattle.fitting_records.proofs.Fronts.{records_with, Fits, fits_begin, fits_whole, whole_fits, fits_more, last_may_stand, fits_less, front_holds}
 
 -- ---- one log
@@ -164,3 +165,8 @@ pub told_some : {E : Type 0} (logs : List Log) (result : Result (Option Spot) E)
 told_some logs (Ok None) e = tt
 told_some logs (Ok (Some s)) e = record_breach logs s (one_told logs (Some s) e)
 told_some logs (Err x) e = tt
+
+-- what is told of the first record that doesn't fit
+pub fit_told : (logs : List Log) (o : Option Spot) → o ≡ unfit_among nothing_seen logs → AreFitTold o logs
+fit_told logs None e = one_told logs None e
+fit_told logs (Some s) e = (record_breach logs s (one_told logs (Some s) e), one_told logs (Some s) e)

@@ -55,7 +55,7 @@ some_if : {X : Type 0} (b : Bool) (v : X) (o : Option X) → is_some (cond b (So
 some_if true v o = refl
 some_if false v o = refl
 
-has_put : {X : Type 0} (m : FinMap nat_cmp X) (k : ℕ) (v : X) (q : ℕ) → is_some (get (insert m k v) q) ≡ ((k == q) || is_some (get m q))
+pub has_put : {X : Type 0} (m : FinMap nat_cmp X) (k : ℕ) (v : X) (q : ℕ) → is_some (get (insert m k v) q) ≡ ((k == q) || is_some (get m q))
 has_put m k v q = ap (λ (o : Option _). is_some o) (put_at m k v q) ∙ some_if (k == q) v (get m q)
 
 -- ---- lists with one record more
@@ -125,7 +125,7 @@ knows_more others before seen r fit h = record {
       ∙ ap (λ (c : Course). standing c) (sym (course_last new_course t before r));
 }
 
-trans_has : (m : Numbers) (rs : List LogRecord) (t : ℕ) → is_some (get (trans_of m rs) t) ≡ (is_some (get m t) || speak_of t rs)
+pub trans_has : (m : Numbers) (rs : List LogRecord) (t : ℕ) → is_some (get (trans_of m rs) t) ≡ (is_some (get m t) || speak_of t rs)
 trans_has m [] t = sym (or_none (is_some (get m t)))
 trans_has m (r ∷ rs) t =
     trans_has (insert m r.tran true) rs t ∙ ap (λ (b : Bool). b || speak_of t rs) (has_put m r.tran true t) ∙ or_moved (r.tran == t) (is_some (get m t)) (speak_of t rs)

@@ -6,3 +6,11 @@ mod Going
 mod Passes
 pub mod Noting
 mod Walking
+mod Joined
+mod Summing
+mod Seeking
+mod Agreeing
+mod Ranging
+mod Rangeon
+mod Members
+pub mod Asking

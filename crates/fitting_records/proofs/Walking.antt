@@ -20,55 +20,7 @@ use Rattle.fitting_records.specs.declared.passing.Passing.{Passing}
 use Rattle.fitting_records.specs.Passings.{nothing_passed, may_pass, passed}
 use Rattle.fitting_records.specs.Passed.{list_at, with_record, ArePassed, NothingIsPassed, PassingGoesOn}
 use Rattle.fitting_records.specs.Walked.{is_noted, IsStart, IsPassedOn, IsWalked}
-
--- ---- the records that were taken of each log, and those that are left
-
-abbrev pub AreJoined : List (List LogRecord) → List (List LogRecord) → List (List LogRecord) → Type 0
-AreJoined [] [] [] = Unit {0}
-AreJoined [] [] (a ∷ all) = ⊥
-AreJoined [] (l ∷ left) all = ⊥
-AreJoined (w ∷ walked) [] all = ⊥
-AreJoined (w ∷ walked) (l ∷ left) [] = ⊥
-AreJoined (w ∷ walked) (l ∷ left) (a ∷ all) = (a ≡ w ++ l) × AreJoined walked left all
-
-abbrev emptied : List (List LogRecord) → List (List LogRecord)
-emptied [] = []
-emptied (l ∷ ls) = [] ∷ emptied ls
-
-joined_start : (all : List (List LogRecord)) → AreJoined (emptied all) all all
-joined_start [] = tt
-joined_start (l ∷ ls) = (refl, joined_start ls)
-
-empty_start : (all : List (List LogRecord)) → AllByRecursion (λ (l : List LogRecord). l ≡ []) (emptied all)
-empty_start [] = tt
-empty_start (l ∷ ls) = (refl, empty_start ls)
-
-joined_end : (walked left all : List (List LogRecord)) → AreJoined walked left all → AreRead left → walked ≡ all
-joined_end [] [] [] j r = refl
-joined_end [] [] (a ∷ all) j r = absurd j
-joined_end [] (l ∷ left) all j r = absurd j
-joined_end (w ∷ walked) [] all j r = absurd j
-joined_end (w ∷ walked) (l ∷ left) [] j r = absurd j
-joined_end (w ∷ walked) (l ∷ left) (a ∷ all) j r =
-    let one : w ≡ a = sym (append-nil w) ∙ ap (λ (x : List LogRecord). w ++ x) (sym r.0) ∙ sym j.0 in
-    ap (λ (x : List LogRecord). x ∷ walked) one ∙ ap (λ (xs : List (List LogRecord)). a ∷ xs) (joined_end walked left all j.1 r.1)
-
--- one record more of a log, which is the first that is left of it
-joined_on : (walked left all : List (List LogRecord)) (k : ℕ) (r : LogRecord) (rest : List LogRecord) → AreJoined walked left all → get_or left k [] ≡ r ∷ rest → AreJoined (with_record walked k r) (set left k rest) all × (k < length walked)
-joined_on [] [] [] k r rest j e = absurd cc
-joined_on [] [] (a ∷ all) k r rest j e = absurd j
-joined_on [] (l ∷ left) all k r rest j e = absurd j
-joined_on (w ∷ walked) [] all k r rest j e = absurd j
-joined_on (w ∷ walked) (l ∷ left) [] k r rest j e = absurd j
-joined_on (w ∷ walked) (l ∷ left) (a ∷ all) zero r rest j e = ((j.0 ∙ ap (λ (x : List LogRecord). w ++ x) e ∙ sym (append_assoc w (r ∷ []) rest), j.1), omega arith)
-joined_on (w ∷ walked) (l ∷ left) (a ∷ all) (suc k) r rest j e =
-    let more = joined_on walked left all k r rest j.1 e in
-    let lt = more.1 in
-    ((j.0, more.0), omega (arith, lt))
-
-none_left : (lists : List (List LogRecord)) → AreRead lists → together lists ≡ []
-none_left [] h = refl
-none_left (l ∷ ls) h = ap (λ (x : List LogRecord). x ++ together ls) h.0 ∙ none_left ls h.1
+use Rattle.fitting_records.proofs.Joined.{AreJoined, emptied, joined_start, empty_start, joined_end, joined_on, none_left}
 
 -- ---- so far
 

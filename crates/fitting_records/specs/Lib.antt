@@ -4,3 +4,8 @@ pub mod Fitting
 pub mod Passings
 pub mod Passed
 pub mod Walked
+pub mod Telling
+pub mod Summed
+pub mod Sought
+pub mod Ranges
+pub mod Ranging

@@ -19,14 +19,16 @@ pub struct Seen {
     pub trans: NumberMap<Standing>,
 }
 
-fn is_first(it: &LogRecord) -> bool
+/// Whether the record belongs to no transaction or has the number of its own.
+pub fn is_first(it: &LogRecord) -> bool
     ensures { result ≡ is_first it.now }
 {
     it.tran.number() == 0 || it.lrsn.number() == it.tran.number()
 }
 
+/// Goes on with the record's transaction.
 #[tactic(auto, using(number_map::proofs::Maps::put_back))]
-fn enter_tran(
+pub fn enter_tran(
     alloc: Global,
     trans: &mut NumberMap<Standing>,
     it: &LogRecord,

@@ -1,3 +1,4 @@
 pub mod Maps
+pub mod Lefts
 pub mod Slots
 pub mod Heaps

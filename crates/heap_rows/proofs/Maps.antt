@@ -11,8 +11,6 @@ use Rattle.ds_model.specs.declared.log.Body.{Body}
 use Rattle.ds_model.specs.declared.log.Body.TheVariants as body
 use Rattle.ds_model.specs.Rows.{Rows, spot_cmp, spot_cmp_total}
 use Rattle.ds_model.specs.Logs.{set_row}
-use Rattle.sound_disk.specs.Rows_there.{row_with, row_from}
-use Rattle.heap_rows.specs.Maps.{rows_with, rows_from, AreRowsAfter}
 
 -- ---- spots
 
@@ -32,29 +30,6 @@ same_spot table key u j =
 
 -- ---- records
 
-set_told : (rows : Rows) (u j : ℕ) (after : Option (List ℕ)) (table key : ℕ) → get (set_row rows u j after) (table, key) ≡ cond ((u == table) && (j == key)) after (get rows (table, key))
+pub set_told : (rows : Rows) (u j : ℕ) (after : Option (List ℕ)) (table key : ℕ) → get (set_row rows u j after) (table, key) ≡ cond ((u == table) && (j == key)) after (get rows (table, key))
 set_told rows u j None table key = get-remove spot_cmp_total rows (u, j) (table, key) ∙ ap (λ (b : Bool). cond b None (get rows (table, key))) (same_spot table key u j)
 set_told rows u j (Some v) table key = get-insert spot_cmp_total rows (u, j) v (table, key) ∙ ap (λ (b : Bool). cond b (Some v) (get rows (table, key))) (same_spot table key u j)
-
-body_told : (rows : Rows) (b : Body) (table key : ℕ) → get (rows_with rows b) (table, key) ≡ row_with table key (get rows (table, key)) b
-body_told rows (body.RowChange c) table key = set_told rows c.table c.key c.after table key
-body_told rows (body.Compensation c undone) table key = set_told rows c.table c.key c.after table key
-body_told rows (body.System patches) table key = refl
-body_told rows body.Commit table key = refl
-body_told rows body.Ended table key = refl
-body_told rows (body.Checkpoint offset) table key = refl
-body_told rows body.RestartEnd table key = refl
-
-all_told : (rows : Rows) (records : List LogRecord) (table key : ℕ) → get (rows_from rows records) (table, key) ≡ row_from table key (get rows (table, key)) records
-all_told rows [] table key = refl
-all_told rows (r ∷ rs) table key = all_told (rows_with rows r.body) rs table key ∙ ap (λ (o : Option (List ℕ)). row_from table key o rs) (body_told rows r.body table key)
-
-are_after : (records : List LogRecord) (rows : Rows) → rows ≡ rows_from empty records → AreRowsAfter records rows
-are_after records rows e table key =
-    ap (λ (m : Rows). get m (table, key)) e
-    ∙ all_told empty records table key
-    ∙ ap (λ (o : Option (List ℕ)). row_from table key o records) (get-empty {X = List ℕ} spot_cmp (table, key))
-
-pub told_of : {E : Type 0} (records : List LogRecord) (result : Result Rows E) → IfOk result (λ rows. rows ≡ rows_from empty records) → IfOk result (λ rows. AreRowsAfter records rows)
-told_of records (Ok rows) h = are_after records rows h
-told_of records (Err e) h = tt

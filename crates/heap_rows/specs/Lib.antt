@@ -1,2 +1,3 @@
 pub mod Rows_left
 pub mod Maps
+pub mod Left

@@ -10,26 +10,9 @@ use Rattle.ds_model.specs.Logs.{set_row}
 use Rattle.heap_space.specs.Slots.{Content}
 use Rattle.sound_disk.specs.Rows_there.{row_after}
 
-abbrev pub rows_with : Rows → Body → Rows
-rows_with rows (body.RowChange c) = set_row rows c.table c.key c.after
-rows_with rows (body.Compensation c undone) = set_row rows c.table c.key c.after
-rows_with rows (body.System patches) = rows
-rows_with rows body.Commit = rows
-rows_with rows body.Ended = rows
-rows_with rows (body.Checkpoint offset) = rows
-rows_with rows body.RestartEnd = rows
-
-abbrev pub rows_from : Rows → List LogRecord → Rows
-rows_from rows [] = rows
-rows_from rows (r ∷ rs) = rows_from (rows_with rows r.body) rs
-
 -- the rows of a table by key
 abbrev pub rows_in : Rows → ℕ → ℕ → Option (List ℕ)
 rows_in rows table = λ key. finite.get rows (table, key)
-
--- the map has the row of each table and key that the records left
-abbrev pub AreRowsAfter : List LogRecord → Rows → Type 0
-AreRowsAfter records rows = (table key : ℕ) → rows_in rows table key ≡ row_after records table key
 
 abbrev pub is_value : Option (List ℕ) → List ℕ → Bool
 is_value None value = false

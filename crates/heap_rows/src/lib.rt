@@ -2,7 +2,8 @@
 #![tactic(auto)]
 
 mod heap;
+mod left;
 mod rows;
 
 pub use heap::page_has;
-pub use rows::rows_after;
+pub use left::LeftRows;

@@ -1,18 +1,14 @@
 ghost use Rattle.std.specs.Prelude.{◌≡◌, ◌-◌, ◌≤◌, IfOk};
-ghost use Rattle.std.specs.List.{AllByRecursion};
-ghost use Rattle.ds_model.specs.RecordBytes.{IsAllowed};
 ghost use Rattle.index_leaf.specs.Entries.{right_field};
 ghost use Rattle.index_leaf.specs.Search.{is_branch};
 ghost use Rattle.page_chain.specs.Chains.{images_of, version_of};
-ghost use Rattle.page_records.specs.Places.{by_page};
+ghost use Rattle.redone_pages.specs.Ranges.{HasTable, HasPage};
 ghost use Rattle.index_links.specs.Nodes.{node_of, nodes_from};
 
 use ds_base::{Key, NoMemory, PageId, TableId};
 use index_leaf::{high_key, low_key, right};
-use log_record::LogRecord;
 use page_format::Page;
-use page_records::PageRecords;
-use page_versions::image_of;
+use redone_pages::RedonePages;
 use std::alloc::Global;
 
 /// What a branch or a leaf says beside its entries.
@@ -52,37 +48,28 @@ pub fn node_of(page: &Page) -> Node
     }
 }
 
-fn read_node(
-    alloc: Global,
-    id: PageId,
-    records: &[LogRecord],
-    changed: &[PageRecords],
-) -> Result<Node, NoMemory>
-    requires allowed { AllByRecursion IsAllowed records.now }
-    requires changed_pages { changed.now ≡ by_page records.now }
-    ensures { IfOk result (λ node. node ≡ node_of (version_of id records.now)) }
+fn read_node(alloc: Global, id: PageId, records: &RedonePages) -> Result<Node, NoMemory>
+    requires { HasPage records.now.range id }
+    ensures { IfOk result (λ node. node ≡ node_of (version_of id records.now.records)) }
 {
-    let page = image_of(alloc, id, records, changed)?;
+    let page = records.image(alloc, id)?;
     Ok(node_of(&page))
 }
 
-/// What the pages of the table's index from page 1 on and before the next free one say after the records. `changed` are the
-/// pages that they change.
+/// What the pages of the table's index from page 1 on and before the next free one say after the records.
 pub fn read_nodes(
     alloc: Global,
     table: TableId,
-    records: &[LogRecord],
-    changed: &[PageRecords],
+    records: &RedonePages,
     next: u32,
 ) -> Result<Vec<Node>, NoMemory>
-    requires allowed { AllByRecursion IsAllowed records.now }
-    requires changed_pages { changed.now ≡ by_page records.now }
+    requires table { HasTable records.now.range table }
     requires some { 1 ≤ next }
-    ensures { IfOk result (λ nodes. nodes.items ≡ nodes_from (images_of records.now) table 1 (next - 1)) }
+    ensures { IfOk result (λ nodes. nodes.items ≡ nodes_from (images_of records.now.records) table 1 (next - 1)) }
 {
     let mut nodes = Vec::new(alloc);
     for number in 1..next {
-        nodes.push(read_node(alloc, table.index_page(number), records, changed)?)?;
+        nodes.push(read_node(alloc, table.index_page(number), records)?)?;
     }
     Ok(nodes)
 }

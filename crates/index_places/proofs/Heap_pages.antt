@@ -10,7 +10,7 @@ use Rattle.sound_disk.specs.Layouts.{count_in}
 use Rattle.sound_disk.specs.Heaps.{heap_last}
 use Rattle.sound_disk.specs.Rows_there.{row_after}
 use Rattle.table_images.specs.Stands.{Stands, StandsAt, given_by}
-use Rattle.heap_rows.specs.Maps.{rows_in, AreRowsAfter}
+use Rattle.heap_rows.specs.Maps.{rows_in}
 use Rattle.heap_rows.specs.Rows_left.{PageHas}
 use Rattle.heap_rows.proofs.Heaps.{blank_count, first_count}
 use Rattle.index_places.specs.Whole.{IsFirstWrong, IsRightHeapPage}
@@ -44,18 +44,18 @@ page_same f g page same h s lt key e = h s lt key e ∙ ap (λ (o : Option (List
 pub record IsBy (at : Images) (records : List LogRecord) (table last given : ℕ) (rows : Rows) : Type 0 where
   pub last_is : last ≡ heap_last at table
   pub given_is : given ≡ given_by at table
-  pub rows_are : AreRowsAfter records rows
+  pub rows_are : (key : ℕ) → rows_in rows table key ≡ row_after records table key
 
 right : (at : Images) (records : List LogRecord) (table last given : ℕ) (rows : Rows) → IsBy at records table last given rows → (n : ℕ) → Of (HeapPasses last given (rows_in rows table)) (heap_page table) at n → IsRightHeapPage at records table n
 right at records table last given rows by n h = (
   subst (λ (m : ℕ). StandsAt at table m (given_by at table) n) by.last_is (subst (λ (g : ℕ). StandsAt at table last g n) by.given_is h.0),
-  page_same (rows_in rows table) (row_after records table) (at (heap_page table n)) (by.rows_are table) h.1,
+  page_same (rows_in rows table) (row_after records table) (at (heap_page table n)) by.rows_are h.1,
 )
 
 tests : (at : Images) (records : List LogRecord) (table last given : ℕ) (rows : Rows) → IsBy at records table last given rows → (n : ℕ) → IsRightHeapPage at records table n → Of (HeapPasses last given (rows_in rows table)) (heap_page table) at n
 tests at records table last given rows by n h = (
   subst (λ (m : ℕ). StandsAt at table m given n) (sym by.last_is) (subst (λ (g : ℕ). StandsAt at table (heap_last at table) g n) (sym by.given_is) h.0),
-  page_same (row_after records table) (rows_in rows table) (at (heap_page table n)) (λ key. sym (by.rows_are table key)) h.1,
+  page_same (row_after records table) (rows_in rows table) (at (heap_page table n)) (λ key. sym (by.rows_are key)) h.1,
 )
 
 pub first_wrong : (at : Images) (records : List LogRecord) (table last given : ℕ) (rows : Rows) (id : PageId) → IsBy at records table last given rows

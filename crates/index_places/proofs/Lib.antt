@@ -6,3 +6,4 @@ pub mod Ranges
 pub mod Leaf_tests
 pub mod Index_pages
 pub mod Told
+pub mod Rows_of

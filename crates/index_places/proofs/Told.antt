@@ -13,12 +13,14 @@ use Rattle.sound_disk.specs.Heaps.{IsHeap}
 use Rattle.sound_disk.specs.Indexes.{AreIndexPages}
 use Rattle.sound_disk.specs.Rows_there.{row_after, said_at, IsPlaceOf}
 use Rattle.sound_disk.specs.Tables.{HasNoIndex, IsWholeIndex, IsWholeTable}
+use Rattle.redone_pages.specs.declared.range.TableRange.{TableRange}
+use Rattle.redone_pages.specs.Ranges.{HasTable}
 use Rattle.table_images.specs.Stands.{StandsIsHeap}
 use Rattle.table_images.specs.Nodes.{IsUnformatted, StandsIsIndex}
 use Rattle.index_links.specs.declared.nodes.Node.{Node}
 use Rattle.index_links.specs.Links.{is_linked}
 use Rattle.index_links.specs.Opens.{Opens, LinkedOpens}
-use Rattle.index_places.specs.Whole.{IsFirstWrong, IsHeapFound, IsIndexFound, IsRightHeapPage, IsRightIndexPage, IsNamed, IsTableTold, IsFirstUnwhole}
+use Rattle.index_places.specs.Whole.{IsFirstWrong, IsHeapFound, IsIndexFound, IsRightHeapPage, IsRightIndexPage, IsNamed, IsTableTold, IsFirstUnwholeOf}
 use Rattle.index_places.proofs.Leaf_tests.{whole_of, whole_leaf}
 use Rattle.index_places.proofs.Index_pages.{blank_next, unformatted_next, all_nodes}
 
@@ -105,15 +107,20 @@ pub table_told : Laws → {E : Type 0} (records : List LogRecord) (table : ℕ) 
 table_told l records table before (Ok found) is heap h = table_found l records table found (heap_right records table before is heap) h
 table_told l records table before (Err e) is heap h = tt
 
--- ---- all tables
+-- ---- the tables of a range
 
-pub first_unwhole : (at : Images) (records : List LogRecord) (table n : ℕ) (found : Option PageId) (id : PageId) → IsTable n → table ≡ n → found ≡ Some id → IsTableTold at records table found
-    → ((k : ℕ) → 1 ≤ k → k < n → IsWholeTable at records k) → IsFirstUnwhole at records id
-first_unwhole at records table n found id is e some told before =
+-- those before this one are whole
+abbrev pub AreWholeTo : Images → List LogRecord → TableRange → ℕ → Type 0
+AreWholeTo at records range n = (k : ℕ) → range.first ≤ k → k < n → IsWholeTable at records k
+
+pub first_unwhole : (at : Images) (records : List LogRecord) (range : TableRange) (table n : ℕ) (found : Option PageId) (id : PageId) → IsTable n → HasTable range n → table ≡ n → found ≡ Some id → IsTableTold at records table found
+    → AreWholeTo at records range n → IsFirstUnwholeOf at records range id
+first_unwhole at records range table n found id is has e some told before =
     let named : (IsWholeTable at records table → ⊥) × IsNamed at records table id = subst (λ (f : Option PageId). IsTableTold at records table f) some told in
     record {
       table = table;
       is_table = subst IsTable (sym e) is;
+      in_range = subst (HasTable range) (sym e) has;
       unwhole = named.0;
       before = λ k from lt. before k from (omega (arith, lt, e));
       page = named.1;
@@ -122,8 +129,8 @@ first_unwhole at records table n found id is e some told before =
 pub whole : (at : Images) (records : List LogRecord) (table : ℕ) (found : Option PageId) → found ≡ None → IsTableTold at records table found → IsWholeTable at records table
 whole at records table found is told = subst (λ (f : Option PageId). IsTableTold at records table f) is told
 
-pub tables_more : (at : Images) (records : List LogRecord) (table n : ℕ) → table ≡ n → IsWholeTable at records table → ((k : ℕ) → 1 ≤ k → k < n → IsWholeTable at records k) → (k : ℕ) → 1 ≤ k → k < n + 1 → IsWholeTable at records k
-tables_more at records table n e w h k from lt =
+pub tables_more : (at : Images) (records : List LogRecord) (range : TableRange) (table n : ℕ) → table ≡ n → IsWholeTable at records table → AreWholeTo at records range n → AreWholeTo at records range (n + 1)
+tables_more at records range table n e w h k from lt =
     elim (cases_lt k n) as (λ _. IsWholeTable at records k) [
       | inl less ↦ h k from less
       | inr up ↦ let same : table ≡ k = omega (arith, e, lt, up) in subst (λ (m : ℕ). IsWholeTable at records m) same w

@@ -17,6 +17,8 @@ use Rattle.disk_versions.specs.Ends.{last_in_records}
 use Rattle.table_images.specs.Stands.{StandsAt, given_by}
 use Rattle.table_images.specs.Nodes.{NodeStandsAt, is_formatted}
 use Rattle.heap_rows.specs.Rows_left.{PageHasAt}
+use Rattle.redone_pages.specs.declared.range.TableRange.{TableRange}
+use Rattle.redone_pages.specs.Ranges.{HasTable}
 use Rattle.index_links.specs.declared.nodes.Node.{Node}
 use Rattle.index_links.specs.Nodes.{nodes_from}
 use Rattle.index_links.specs.Links.{is_linked}
@@ -95,6 +97,17 @@ pub record IsFirstUnwhole (at : Images) (records : List LogRecord) (id : PageId)
   pub before : (k : ℕ) → 1 ≤ k → k < table → IsWholeTable at records k
   pub page : IsNamed at records table id
 
-abbrev pub IsFirstTold : Images → List LogRecord → Option PageId → Type 0
-IsFirstTold at records None = AreAllWhole at records
-IsFirstTold at records (Some id) = IsFirstUnwhole at records id
+-- ---- the tables of a range
+
+-- the table is the first of them that isn't whole, and this is the page that is named
+pub record IsFirstUnwholeOf (at : Images) (records : List LogRecord) (range : TableRange) (id : PageId) : Type 0 where
+  pub table : ℕ
+  pub is_table : IsTable table
+  pub in_range : HasTable range table
+  pub unwhole : IsWholeTable at records table → ⊥
+  pub before : (k : ℕ) → range.first ≤ k → k < table → IsWholeTable at records k
+  pub page : IsNamed at records table id
+
+abbrev pub IsRangeTold : Images → List LogRecord → TableRange → Option PageId → Type 0
+IsRangeTold at records range None = (table : ℕ) → HasTable range table → IsWholeTable at records table
+IsRangeTold at records range (Some id) = IsFirstUnwholeOf at records range id

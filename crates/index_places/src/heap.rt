@@ -1,20 +1,17 @@
 ghost use Rattle.std.specs.Prelude.{◌≡◌, ◌↔◌, IfOk, IsTrue};
-ghost use Rattle.std.specs.List.{AllByRecursion};
-ghost use Rattle.ds_model.specs.RecordBytes.{IsAllowed};
 ghost use Rattle.page_chain.specs.Chains.{images_of};
-ghost use Rattle.page_records.specs.Places.{by_page};
+ghost use Rattle.redone_pages.specs.Ranges.{HasTable, has_table};
 ghost use Rattle.table_images.specs.Stands.{Stands};
-ghost use Rattle.heap_rows.specs.Maps.{rows_in, AreRowsAfter};
+ghost use Rattle.heap_rows.specs.Maps.{rows_in};
+ghost use Rattle.heap_rows.specs.Left.{AreRowsOf};
 ghost use Rattle.heap_rows.specs.Rows_left.{PageHas};
 ghost use Rattle.index_places.specs.Whole.{IsHeapFound};
 
 use ds_base::{NoMemory, PageId, TableId, Value};
 use heap_rows::page_has;
 use heap_space::last_page;
-use log_record::LogRecord;
 use page_format::Page;
-use page_records::PageRecords;
-use page_versions::image_of;
+use redone_pages::RedonePages;
 use spot_map::SpotMap;
 use std::alloc::Global;
 use table_images::{heap_end, heap_page_stands};
@@ -41,28 +38,25 @@ fn is_right(
 }
 
 /// The first page of the table's heap that isn't right by itself, or has a slot that was given with another row than the
-/// records left. `changed` are the pages that they change.
+/// records left.
 ///
-/// It goes over all records once, and over the pages up to the last one that they change. Each takes time in the logarithm of
-/// the number of these pages, and in the number of its own records.
+/// It goes over the pages up to the last one that they change. Each takes time in the logarithm of the number of pages.
 pub fn find_wrong_heap_page(
     alloc: Global,
     table: TableId,
-    records: &[LogRecord],
-    changed: &[PageRecords],
+    records: &RedonePages,
     rows: &SpotMap<Value>,
 ) -> Result<Option<PageId>, NoMemory>
-    requires allowed { AllByRecursion IsAllowed records.now }
-    requires changed_pages { changed.now ≡ by_page records.now }
-    requires rows { AreRowsAfter records.now rows.now }
-    ensures { IfOk result (λ found. IsHeapFound (images_of records.now) records.now table found) }
+    requires table { HasTable records.now.range table }
+    requires rows { AreRowsOf (has_table records.now.range) records.now.records rows.now }
+    ensures { IfOk result (λ found. IsHeapFound (images_of records.now.records) records.now.records table found) }
 {
-    let header = image_of(alloc, table.heap_page(0), records, changed)?;
+    let header = records.image(alloc, table.heap_page(0))?;
     let last = last_page(&header);
     let given = given_in(&header);
     for number in 0..heap_end(table, records, last) {
         let id = table.heap_page(number as u32);
-        let page = image_of(alloc, id, records, changed)?;
+        let page = records.image(alloc, id)?;
         if !is_right(&page, id, last, given, table, rows) {
             return Ok(Some(id));
         }

@@ -1,9 +1,7 @@
 ghost use Rattle.std.specs.Prelude.{◌≡◌, ◌↔◌, IfOk, IsTrue};
-ghost use Rattle.std.specs.List.{AllByRecursion};
 ghost use Rattle.std.specs.FinMap as finite;
-ghost use Rattle.ds_model.specs.RecordBytes.{IsAllowed};
 ghost use Rattle.page_chain.specs.Chains.{images_of};
-ghost use Rattle.page_records.specs.Places.{by_page};
+ghost use Rattle.redone_pages.specs.Ranges.{HasTable};
 ghost use Rattle.sound_disk.specs.Indexes.{IsNodePage};
 ghost use Rattle.index_links.specs.Links.{rights_from};
 ghost use Rattle.index_places.specs.Placing.{AreGiven, AreByKey};
@@ -15,10 +13,8 @@ use crate::slots::Given;
 use crate::tree::{IndexTree, read_tree};
 use ds_base::{NoMemory, PageId, TableId};
 use index_links::is_linked;
-use log_record::LogRecord;
 use page_format::Page;
-use page_records::PageRecords;
-use page_versions::image_of;
+use redone_pages::RedonePages;
 use std::alloc::Global;
 use table_images::{index_end, index_page_stands};
 
@@ -65,28 +61,25 @@ fn passes(
 
 /// The first page of the table's index that isn't right, where these slots of its heap were given, in the order of their keys: by itself, in its links,
 /// entries or place in the row of leaves, or as a leaf that doesn't have exactly the places of its keys. Of an index that isn't
-/// formatted though slots were given page 1 isn't right. `changed` are the pages that the records change.
+/// formatted though slots were given page 1 isn't right.
 ///
-/// It goes over all records once, twice where the index has pages, and over the pages up to the last one that they change. Each
-/// takes time in the logarithm of the number of these pages, and in the number of its own records; a leaf takes time in the
-/// logarithm of the number of the slots too, and in the number of those that were given to its keys.
+/// It goes over the pages up to the last one that the records change. Each takes time in the logarithm of the number of pages; a
+/// leaf takes time in the logarithm of the number of the slots too, and in the number of those that were given to its keys.
 pub fn find_wrong_index_page(
     alloc: Global,
     table: TableId,
-    records: &[LogRecord],
-    changed: &[PageRecords],
+    records: &RedonePages,
     given: Vec<Given>,
 ) -> Result<Option<PageId>, NoMemory>
-    requires allowed { AllByRecursion IsAllowed records.now }
-    requires changed_pages { changed.now ≡ by_page records.now }
-    requires given { AreGiven (images_of records.now) table given.items }
+    requires table { HasTable records.now.range table }
+    requires given { AreGiven (images_of records.now.records) table given.items }
     requires order { AreByKey given.items }
-    ensures { IfOk result (λ found. IsIndexFound (images_of records.now) records.now table found) }
+    ensures { IfOk result (λ found. IsIndexFound (images_of records.now.records) records.now.records table found) }
 {
-    let tree = read_tree(alloc, table, records, changed, given)?;
+    let tree = read_tree(alloc, table, records, given)?;
     for number in 0..index_end(table, records, tree.next) {
         let id = table.index_page(number as u32);
-        let page = image_of(alloc, id, records, changed)?;
+        let page = records.image(alloc, id)?;
         if !passes(alloc, table, &tree, id, &page)? {
             return Ok(Some(id));
         }

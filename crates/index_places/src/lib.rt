@@ -12,4 +12,4 @@ mod tree;
 pub use heap::find_wrong_heap_page;
 pub use index::find_wrong_index_page;
 pub use slots::{Given, given_in};
-pub use tables::{find_first_unwhole, find_unwhole_page};
+pub use tables::{find_unwhole, find_unwhole_page};

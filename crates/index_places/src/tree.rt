@@ -1,20 +1,15 @@
 ghost use Rattle.std.specs.Prelude.{◌≡◌, ◌-◌, ◌<◌, ◌^◌, min, IfOk};
-ghost use Rattle.std.specs.List.{AllByRecursion};
 ghost use Rattle.ds_base.specs.Pages.{index_set};
-ghost use Rattle.ds_model.specs.RecordBytes.{IsAllowed};
 ghost use Rattle.page_chain.specs.Chains.{images_of};
-ghost use Rattle.page_records.specs.Places.{by_page};
-ghost use Rattle.disk_versions.specs.Ends.{last_in_records};
+ghost use Rattle.redone_pages.specs.Lasts.{last_in_records};
+ghost use Rattle.redone_pages.specs.Ranges.{HasTable};
 ghost use Rattle.index_places.specs.Trees.{IsTreeOf};
 
 use crate::slots::{Given, places_of};
-use disk_versions::last_in_records;
 use ds_base::{NoMemory, Place, TableId};
 use index_leaf::next_page;
 use index_links::{Node, read_nodes, rights_of};
-use log_record::LogRecord;
-use page_records::PageRecords;
-use page_versions::image_of;
+use redone_pages::RedonePages;
 use spot_map::SpotMap;
 use std::alloc::Global;
 use table_images::is_blank;
@@ -36,36 +31,30 @@ pub struct IndexTree {
     pub places: SpotMap<Place>,
 }
 
-// How many of the pages before this next free one the records may change. Where there is none the records aren't looked at.
-fn node_count(table: TableId, records: &[LogRecord], next: u32) -> u32
-    ensures exact { result ≡ min (next - 1) (last_in_records (index_set table) 0 records.now) }
+// How many of the pages before this next free one the records may change.
+fn node_count(table: TableId, records: &RedonePages, next: u32) -> u32
+    ensures exact { result ≡ min (next - 1) (last_in_records (index_set table) 0 records.now.records) }
     ensures below { result < 2 ^ 32 - 1 }
 {
     let last = next.saturating_sub(1);
-    if last == 0 {
-        return 0;
-    }
-    let greatest = last_in_records(table.index_page(0).set, records);
+    let greatest = records.last(table.index_set());
     if greatest < last { greatest } else { last }
 }
 
-/// The tree of the table's index after the records, where these slots of its heap were given. `changed` are the pages that the
-/// records change.
+/// The tree of the table's index after the records, where these slots of its heap were given.
 pub fn read_tree(
     alloc: Global,
     table: TableId,
-    records: &[LogRecord],
-    changed: &[PageRecords],
+    records: &RedonePages,
     given: Vec<Given>,
 ) -> Result<IndexTree, NoMemory>
-    requires allowed { AllByRecursion IsAllowed records.now }
-    requires changed_pages { changed.now ≡ by_page records.now }
-    ensures { IfOk result (λ tree. IsTreeOf (images_of records.now) records.now table given.items tree) }
+    requires table { HasTable records.now.range table }
+    ensures { IfOk result (λ tree. IsTreeOf (images_of records.now.records) records.now.records table given.items tree) }
 {
-    let header = image_of(alloc, table.index_page(0), records, changed)?;
+    let header = records.image(alloc, table.index_page(0))?;
     let next = next_page(&header);
     let count = node_count(table, records, next);
-    let nodes = read_nodes(alloc, table, records, changed, count + 1)?;
+    let nodes = read_nodes(alloc, table, records, count + 1)?;
     let rights = rights_of(alloc, table, &nodes)?;
     let places = places_of(alloc, table, &given)?;
     Ok(IndexTree {

@@ -80,11 +80,11 @@ and_both : (a b : Bool) → a ≡ true → b ≡ true → (a && b) ≡ true
 and_both true b h k = k
 and_both false b h k = h
 
-decide : (b : Bool) (P : Type 0) → (b ≡ true → P) → (b ≡ false → P) → P
+pub decide : (b : Bool) (P : Type 0) → (b ≡ true → P) → (b ≡ false → P) → P
 decide true P f g = f refl
 decide false P f g = g refl
 
-same : (m n : ℕ) → (m == n) ≡ true → m ≡ n
+pub same : (m n : ℕ) → (m == n) ≡ true → m ≡ n
 same m n h = grind (arith, nat_tests)
 
 itself : (n : ℕ) → (n == n) ≡ true
@@ -127,7 +127,7 @@ gone_if : (b : Bool) (o : Option (List ℕ)) → numbers_of (cond b None o) ≡ 
 gone_if true o = refl
 gone_if false o = refl
 
-held_removed : (changes : Open) (tran t : ℕ) → held (remove changes tran) t ≡ cond (t == tran) [] (held changes t)
+pub held_removed : (changes : Open) (tran t : ℕ) → held (remove changes tran) t ≡ cond (t == tran) [] (held changes t)
 held_removed changes tran t =
     ap (λ (o : Option (List ℕ)). numbers_of o) (get-remove nat_cmp_total changes tran t)
     ∙ gone_if (eq_by_cmp nat_cmp t tran) (get changes t)
@@ -137,7 +137,7 @@ twice : (b : Bool) (ns : List ℕ) (o : Open) (tran t : ℕ) → cond b ns (cond
 twice true ns o tran t = refl
 twice false ns o tran t = refl
 
-held_with : (changes : Open) (tran : ℕ) (ns : List ℕ) (t : ℕ) → held (with_numbers (remove changes tran) tran ns) t ≡ cond (t == tran) ns (held changes t)
+pub held_with : (changes : Open) (tran : ℕ) (ns : List ℕ) (t : ℕ) → held (with_numbers (remove changes tran) tran ns) t ≡ cond (t == tran) ns (held changes t)
 held_with changes tran [] t = held_removed changes tran t
 held_with changes tran (n ∷ ns) t =
     ap (λ (o : Option (List ℕ)). numbers_of o) (get-insert nat_cmp_total (remove changes tran) tran (n ∷ ns) t)

@@ -25,7 +25,7 @@ some_if : (b : Bool) (o : Option Bool) → is_some (cond b (Some true) o) ≡ (b
 some_if true o = refl
 some_if false o = refl
 
-has_put : (m : Places) (k q : ℕ) → is_some (get (insert m k true) q) ≡ ((k == q) || is_some (get m q))
+pub has_put : (m : Places) (k q : ℕ) → is_some (get (insert m k true) q) ≡ ((k == q) || is_some (get m q))
 has_put m k q =
     ap (λ (o : Option Bool). is_some o) (get-insert nat_cmp_total m k true q ∙ ap (λ (b : Bool). cond b (Some true) (get m q)) (same_number q k))
     ∙ some_if (k == q) (get m q)
@@ -94,7 +94,7 @@ none_behind : (more : Option Spot) (member : ℕ) (place : Option ℕ) → or_be
 none_behind more member None h = (refl, h)
 none_behind more member (Some at) h = absurd cc
 
-no_spot : (logs : List Log) → bad_spot logs ≡ None → OffsetsFit logs
+pub no_spot : (logs : List Log) → bad_spot logs ≡ None → OffsetsFit logs
 no_spot [] h = tt
 no_spot (log ∷ logs) h =
     let both = none_behind (bad_spot logs) log.member (bad_offset log.records) h in
@@ -109,7 +109,7 @@ not_both : (b : Bool) → b ≡ false → b ≡ true → ⊥
 not_both true h k = absurd cc
 not_both false h k = absurd cc
 
-one_spot : (logs : List Log) (s : Spot) → bad_spot logs ≡ Some s → OffsetsFit logs → ⊥
+pub one_spot : (logs : List Log) (s : Spot) → bad_spot logs ≡ Some s → OffsetsFit logs → ⊥
 one_spot [] s h fit = absurd cc
 one_spot (log ∷ logs) s h fit =
     spot_behind (bad_spot logs) log.member (bad_offset log.records) s (offsets_fit [] 0 log.records ≡ true) (OffsetsFit logs)

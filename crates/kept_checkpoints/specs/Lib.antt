@@ -1,3 +1,4 @@
 pub mod Offsets
 pub mod Needs
 pub mod Scan
+pub mod Recheck

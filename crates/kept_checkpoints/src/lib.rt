@@ -4,10 +4,12 @@
 
 mod needs;
 mod offsets;
+mod recheck;
 mod scan;
 mod start;
 
 pub use needs::{Need, needs_laws, needs_of};
 pub use offsets::find_bad_offset;
+pub use recheck::{Recheck, recheck_laws};
 pub use scan::{LogScan, scan_laws};
 pub use start::start_of;

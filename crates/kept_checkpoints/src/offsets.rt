@@ -28,7 +28,8 @@ fn add_place(places: &mut NumberMap<bool>, at: u64) -> Result<(), NoMemory>
     places.put(place_number(at), true)
 }
 
-fn fits_among(places: &NumberMap<bool>, body: &Body) -> bool
+/// Whether a Checkpoint with this body has one of these offsets.
+pub fn fits_among(places: &NumberMap<bool>, body: &Body) -> bool
     ensures { result ≡ fits_among places.now body.now }
 {
     match body {

@@ -1,4 +1,6 @@
 pub mod Judged
-pub mod Kept
+pub mod Deciding
 pub mod Told
 pub mod Walking
+pub mod Telling
+pub mod Members

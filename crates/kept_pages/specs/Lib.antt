@@ -2,3 +2,4 @@ pub mod Unmet
 pub mod Reading
 pub mod Unkept
 pub mod Walking
+pub mod Exact

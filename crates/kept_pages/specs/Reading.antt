@@ -1,13 +1,2 @@
 -- How a disk is read.
-use Rattle.std.specs.Prelude.{ℕ, ◌≤◌, Option, Result, IfOk, IsErrOf}
-use Rattle.ds_base.specs.Causes.{Rose}
-use Rattle.ds_disk.specs.Contents.{Contents, WhenTold, Becomes, Same}
-use Rattle.ds_disk.specs.declared.disk.DiskError.{DiskError}
-use Rattle.ds_disk.specs.declared.disk.DiskError.TheVariants.{Failed}
-
--- the answer holds of what the disk told before the call, which stays as it was; the call failed only where the disk counted a fault
-pub record Reads {T : Type 0} (before after : Option Contents) (faults faults_now : ℕ) (Is : T → Contents → Type 0) (result : Result T DiskError) : Type 0 where
-  pub ok : IfOk result (λ x. WhenTold before (Is x))
-  pub failed : IsErrOf result Failed → Rose faults faults_now
-  pub same : Becomes before after Same
-  pub later : faults ≤ faults_now
+pub use Rattle.disk_walk.specs.Reading.{Reads}

@@ -14,7 +14,8 @@ use kept_checkpoints::{find_bad_offset, needs_laws, needs_of};
 use log_record::Log;
 use std::alloc::Global;
 
-fn page_spot(found: Option<PageId>) -> Option<Spot>
+/// The spot of a page.
+pub fn page_spot(found: Option<PageId>) -> Option<Spot>
     ensures { result ≡ page_spot found }
 {
     match found {

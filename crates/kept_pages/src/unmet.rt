@@ -2,6 +2,7 @@ ghost use Rattle.std.specs.Prelude.{◌≡◌, IfOk};
 ghost use Rattle.std.specs.List.Sorted.{IsPermutation};
 ghost use Rattle.ds_disk.specs.Pages.{page_at};
 ghost use Rattle.kept_checkpoints.specs.Needs.{is_met};
+ghost use Rattle.kept_pages.specs.Exact.{Judges};
 ghost use Rattle.kept_pages.specs.Reading.{Reads};
 ghost use Rattle.kept_pages.specs.Unmet.{AreJudged, IsSeen};
 
@@ -65,6 +66,26 @@ pub fn judge<D: Disk>(
         seen = Some(need.page);
     }
     Ok(first)
+}
+
+/// The first page that doesn't meet a need so far, with these needs more, which are looked at in their order; a page that comes again
+/// at once is read once.
+pub fn judge_more<D: Disk>(
+    disk: &mut D,
+    page: &mut Page,
+    first: Option<PageId>,
+    needs: &[Need],
+) -> Result<Option<PageId>, DiskError>
+    ensures { Reads (D.contents disk.old) (D.contents disk.new) (D.faults disk.old) (D.faults disk.new) (λ found c. Judges (page_at c.pages) first found needs.now) result }
+{
+    let mut found = first;
+    let mut seen = None;
+    for need in needs {
+        let met = is_met(disk, page, seen, need)?;
+        found = judged_with(met, found, need.page);
+        seen = Some(need.page);
+    }
+    Ok(found)
 }
 
 fn by_page(alloc: Global, needs: &[Need]) -> Result<Vec<Need>, NoMemory>

@@ -1,4 +1,11 @@
-pub mod Drawn
-pub mod Firsts
-pub mod Fronts
-pub mod Rows
+pub mod Tallies
+pub mod Behind
+pub mod Holding
+pub mod RowSteps
+pub mod HeldSteps
+pub mod Turning
+pub mod Lefts
+pub mod Merges
+pub mod Ranging
+pub mod Numbers
+pub mod Ordering

@@ -1,4 +1,7 @@
 pub mod Turns
-pub mod Settling
-pub mod Holders
 pub mod Out
+pub mod Orders
+pub mod States
+pub mod Scans
+pub mod Ranges
+pub mod Steps

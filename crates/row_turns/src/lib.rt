@@ -1,10 +1,13 @@
-//! Whether rows are changed under one transaction at a time, over merged records.
+//! Whether rows are changed under one transaction at a time, how many row changes are open, and how many rows the committed ones
+//! leave: of the rows of some tables, one record after the other.
 #![tactic(auto)]
 
-mod holders;
-mod logs;
-mod settling;
-mod turns;
+mod held;
+mod laws;
+mod row;
+mod scan;
+mod told;
 
-pub use logs::turn_spot;
-pub use turns::find_out_of_turn;
+pub use laws::{merged_laws, order_laws, turn_laws};
+pub use scan::Turns;
+pub use told::{OutOfTurn, Told};

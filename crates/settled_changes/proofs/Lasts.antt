@@ -1,5 +1,5 @@
 -- The greatest number of records is that of one of them.
-use Rattle.std.proofs.Common.{◌≡◌, ◌≢◌, ℕ, ◌+◌, max, Bool, true, false, cond, List, [], ◌∷◌, ◌++◌, length, Option, Some, None, Result, Ok, Err, IfOk, IfNone, refl, sym, ap, ◌∙◌, arith}
+use Rattle.std.proofs.Common.{◌≡◌, ◌≢◌, ℕ, ◌+◌, max, Bool, true, false, cond, List, [], ◌∷◌, ◌++◌, length, Option, Some, None, Result, Ok, Err, IfOk, IfNone, refl, sym, ap, subst, ◌∙◌, arith}
 use Rattle.std.specs.Prelude.{◌==◌, ◌||◌}
 use Rattle.std.specs.List.{list_any}
 use Rattle.std.proofs.lemmas.Bool.Decides.{nat_tests}
@@ -12,7 +12,9 @@ use Rattle.log_trans.specs.Numbers.{greatest}
 use Rattle.disk_spots.specs.declared.spot.Spot.{Spot}
 use Rattle.disk_spots.specs.declared.spot.Spot.TheVariants as spot
 use Rattle.disk_spots.specs.Spots.{place_from, or_behind, spot_of}
+use Rattle.ds_base.specs.Ids.{IsLrsn}
 use Rattle.sound_disk.specs.Numbers_left.{open_changes, NumbersAreLeft}
+use Rattle.settled_changes.specs.Spots.{AreNumbersTold, NumbersTell}
 
 pub greatest_more : (xs ys : List LogRecord) → greatest (xs ++ ys) ≡ max (greatest xs) (greatest ys)
 greatest_more [] ys = omega arith
@@ -81,3 +83,14 @@ pub told_left : {E : Type 0} (logs : List Log) (n : ℕ) (result : Result (Optio
 told_left logs n (Ok None) is h = found logs (ap (λ (m : ℕ). spot_of m logs) (sym is) ∙ sym h)
 told_left logs n (Ok (Some s)) is h = tt
 told_left logs n (Err e) is h = tt
+
+lacks : (logs : List Log) (great count : ℕ) → great ≡ greatest (all_records logs) → count ≡ length (open_changes (all_records logs)) → (IsLrsn (great + count) → ⊥) → NumbersAreLeft logs → ⊥
+lacks logs great count great_is count_is none h =
+    none (subst (λ (m : ℕ). IsLrsn (great + m)) (sym count_is) (subst (λ (m : ℕ). IsLrsn (m + length (open_changes (all_records logs)))) (sym great_is) h))
+
+pub numbers_tell : NumbersTell
+numbers_tell logs great count None great_is count_is none spot_is = found logs (ap (λ (m : ℕ). spot_of m logs) (sym great_is) ∙ sym spot_is)
+numbers_tell logs great count (Some s) great_is count_is none spot_is = record {
+  lacking = lacks logs great count great_is count_is none;
+  spot_is = ap (λ (m : ℕ). spot_of m logs) (sym great_is) ∙ sym spot_is;
+}

@@ -1,5 +1,5 @@
 pub mod Reading
 pub mod Steps
 pub mod Verdicts
-mod Taken
-mod Known
+pub mod Scanning
+pub mod Adding

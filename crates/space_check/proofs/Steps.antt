@@ -1,101 +1,73 @@
--- From the clauses of a sound disk to what is told of it.
-use Rattle.std.proofs.Common.{◌≡◌, ℕ, ◌+◌, Bool, true, List, [], ◌∷◌, length, Option, Some, None, Result, Ok, Err, inl, inr, refl, sym, ap, subst, ◌∙◌}
-use Rattle.std.specs.Prelude.{IfOk, IfNone, IfSome}
+-- From what was told of logs and tables to the clauses of a sound disk.
+use Rattle.std.proofs.Common.{◌≡◌, ℕ, ◌+◌, ◌≤◌, Bool, true, false, List, [], ◌∷◌, ◌++◌, length, Option, Some, None, inl, inr, refl, sym, ap, subst, ◌∙◌, if◌then◌else◌}
+use Rattle.std.specs.Prelude.{◌⊎◌, ◌↔◌, ◌&&◌, IsTrue}
+use Rattle.std.specs.List.{AllByRecursion}
+use Rattle.ds_base.specs.Ids.{IsLrsn, IsTable}
 use Rattle.ds_base.specs.declared.names.PageId.{PageId}
 use Rattle.ds_disk.specs.Contents.{Contents}
 use Rattle.ds_disk.specs.Pages.{page_at}
 use Rattle.ds_model.specs.declared.log.LogRecord.{LogRecord}
+use Rattle.ds_model.specs.RecordBytes.{IsAllowed}
 use Rattle.ds_model.specs.Rows.{listed}
-use Rattle.ds_model.specs.Logs.{rows_of_logs}
+use Rattle.ds_model.specs.Logs.{rows_of_logs, by_lrsn}
 use Rattle.disk_spots.specs.declared.spot.Spot.{Spot}
 use Rattle.disk_spots.specs.declared.spot.Spot.TheVariants as spot
+use Rattle.disk_spots.specs.Spots.{spot_of, drawn_spot_of}
 use Rattle.log_record.specs.declared.log.Log.{Log}
-use Rattle.log_trans.specs.Damage.{AreAllowed}
+use Rattle.log_merge.specs.Merging.{all_records}
+use Rattle.log_trans.specs.Numbers.{greatest}
 use Rattle.page_images.specs.Images.{Images}
 use Rattle.page_chain.specs.Chains.{images_of}
 use Rattle.restart_plan.specs.Renewal.{must_renew}
-use Rattle.sound_disk.specs.Laws.{records_of, AreTold}
+use Rattle.sound_disk.specs.Laws.{records_of, AreMerged}
 use Rattle.sound_disk.specs.Whole_logs.{AreWholeLogs}
 use Rattle.sound_disk.specs.Transactions.{AreTransactions}
 use Rattle.sound_disk.specs.Versions.{merged}
 use Rattle.sound_disk.specs.Checkpoints.{AreCheckpointed}
-use Rattle.sound_disk.specs.Numbers_left.{NumbersAreLeft}
-use Rattle.sound_disk.specs.Tables.{AreWholeTables, AreTables}
-use Rattle.sound_disk.specs.Turns.{are_in_turn, ChangeInTurn}
+use Rattle.sound_disk.specs.Numbers_left.{open_changes, NumbersAreLeft}
+use Rattle.sound_disk.specs.Tables.{IsWholeTable, AreWholeTables, AreTables}
+use Rattle.sound_disk.specs.Turns.{is_in_turn, are_in_turn, ChangeInTurn}
 use Rattle.fitting_records.specs.Breaches.{IsRecordOf, IsFirstBreach}
+use Rattle.fitting_records.specs.Telling.{AreFitTold}
+use Rattle.fitting_records.specs.Passed as passing
 use Rattle.disk_logs.specs.Broken.{IsFirstBroken}
-use Rattle.disk_logs.specs.declared.logs.Found.{Found}
-use Rattle.disk_logs.specs.Looking.{AreOfSome, AreFound, AreFoundOfSome}
-use Rattle.disk_versions.specs.declared.set.Placing.{Placing}
+use Rattle.disk_logs.specs.Ends.{AreWholeTo}
+use Rattle.disk_versions.specs.Placing.{AreInSets, IsFirstInSets}
+use Rattle.disk_versions.specs.Told.{page_sets, AreAllPlaced, IsFirstUnplaced}
+use Rattle.disk_versions.specs.Ranged.{PlacingTells}
 use Rattle.disk_versions.specs.declared.set.Placing.TheVariants as placing
-use Rattle.disk_versions.specs.Told.{AreAllPlaced, IsFirstUnplaced, IsTold as Told, AreToldBy}
-use Rattle.index_places.specs.Whole.{AreAllWhole, IsFirstUnwhole, IsFirstTold}
+use Rattle.index_places.specs.Whole.{AreAllWhole, IsFirstUnwhole}
 use Rattle.kept_pages.specs.Unkept.{IsUnkept, AreKept}
-use Rattle.row_turns.specs.Out.{IsOutOfTurn}
+use Rattle.row_turns.specs.Orders as orders
+use Rattle.row_turns.specs.Out.{IsOutOfTurn, located}
 use Rattle.row_turns.specs.Turns.{out_of_turn}
-use Rattle.settled_changes.specs.Spots.{LackNumbers}
+use Rattle.row_turns.specs.Ranges.{number_in, OutIsFirst, OpenAreAll, RowsAreAll}
+use Rattle.row_turns.specs.declared.told.OutOfTurn.{OutOfTurn}
+use Rattle.settled_changes.specs.Spots.{LackNumbers, AreNumbersTold, NumbersTell}
+use Rattle.stood_rows.specs.declared.unstood.Unstood.{Unstood}
+use Rattle.stood_rows.specs.Found.{page_in}
+use Rattle.stood_rows.specs.Laws.{FoundAreTold}
 use Rattle.stood_rows.specs.Standing.{AreTold as AreStood}
-use Rattle.space_check.specs.declared.said.Said.{Said}
+use Rattle.space_check.specs.declared.told.TablesTold.{TablesTold}
 use Rattle.space_check.specs.declared.verdict.Clause.{Clause}
 use Rattle.space_check.specs.declared.verdict.Clause.TheVariants as clause
 use Rattle.space_check.specs.declared.verdict.Breach.{Breach}
 use Rattle.space_check.specs.declared.verdict.Verdict.{Verdict}
 use Rattle.space_check.specs.declared.verdict.Verdict.TheVariants as verdict
-use Rattle.space_check.specs.Clauses.{ArePlaced, IsBreach, IsTablesPage}
-use Rattle.space_check.specs.Judging.{AreTablesJudged, IsLastBreach, AreLastJudged, AreRight}
+use Rattle.space_check.specs.Clauses.{ArePlaced, IsTablesPage, IsBreach}
+use Rattle.space_check.specs.Judging.{AreRight}
 use Rattle.space_check.specs.Verdicts.{IsTold}
-use Rattle.space_check.specs.Telling.{AreFit, IsOutTold, verdict_by, verdict_of, AreTurnsTold, ArePlacedTold, ArePagesTold}
+use Rattle.space_check.specs.Tables.{AreWholeUpTo, AreStoodUpTo, AreTablesTold}
+use Rattle.space_check.specs.Telling.{AreEnded, TellsEnded, AreFit, AreTabled, wrong_by, wrong_page, unsound}
 
--- ---- the fourth clause
-
-tables_by : (records : List LogRecord) (found : Option PageId) → AreAllWhole (images_of records) records → AreStood records found → AreTablesJudged records found
-tables_by records None whole told = record { tables = whole; befores = told }
-tables_by records (Some id) whole told = (λ w. told.lacking w.befores, inr (whole, told))
-
-pub tables_judged : {E : Type 0} (records : List LogRecord) (result : Result (Option PageId) E) → AreAllWhole (images_of records) records → IfOk result (λ found. AreStood records found)
-    → IfOk result (λ found. AreTablesJudged records found)
-tables_judged records (Ok found) whole told = tables_by records found whole told
-tables_judged records (Err e) whole told = tt
-
--- all tables are whole, or not, by what was found of them
-pub whole_none : (records : List LogRecord) (found : Option PageId) → IsFirstTold (images_of records) records found → found ≡ None → AreAllWhole (images_of records) records
-whole_none records found told is = subst (λ (f : Option PageId). IsFirstTold (images_of records) records f) is told
-
-pub whole_some : (records : List LogRecord) (found : Option PageId) (id : PageId) → IsFirstTold (images_of records) records found → found ≡ Some id → AreTablesJudged records (Some id)
-whole_some records found id told is =
-    let first : IsFirstUnwhole (images_of records) records id = subst (λ (f : Option PageId). IsFirstTold (images_of records) records f) is told in
-    (λ w. first.unwhole (w.tables first.table first.is_table), inl first)
-
--- the same of logs of which these are the merged records
-pub tables_hold : (logs : List Log) (records : List LogRecord) (page : Option PageId) → AreTablesJudged records page → page ≡ None → records ≡ merged logs → AreTables logs
-tables_hold logs records page told is are = subst AreWholeTables are (subst (λ (p : Option PageId). AreTablesJudged records p) is told)
-
-pub tables_fail : (logs : List Log) (records : List LogRecord) (page : Option PageId) (id : PageId) → AreTablesJudged records page → page ≡ Some id → records ≡ merged logs → (AreTables logs → ⊥) × IsTablesPage (merged logs) id
-tables_fail logs records page id told is are =
-    subst (λ (rs : List LogRecord). (AreWholeTables rs → ⊥) × IsTablesPage rs id) are (subst (λ (p : Option PageId). AreTablesJudged records p) is told)
-
--- ---- what was found, or nothing
-
-pub nothing : (P : Type 0) (found : Option Spot) → IfNone found P → found ≡ None → P
-nothing P found h is = subst (λ (f : Option Spot). IfNone f P) is h
-
-pub something : (P : Spot → Type 0) (found : Option Spot) (s : Spot) → IfSome found P → found ≡ Some s → P s
-something P found s h is = subst (λ (f : Option Spot). IfSome f P) is h
-
-pub kept_none : (at : Images) (logs : List Log) (found : Option Spot) → found ≡ None → AreKept at logs found → AreCheckpointed at logs
-kept_none at logs found is h = subst (λ (f : Option Spot). AreKept at logs f) is h
-
-pub kept_some : (at : Images) (logs : List Log) (found : Option Spot) (s : Spot) → found ≡ Some s → AreKept at logs found → IsUnkept at logs s
-kept_some at logs found s is h = subst (λ (f : Option Spot). AreKept at logs f) is h
-
-pub placed_at : (at : Images) (logs : List Log) (behind : ℕ) (found other : Placing) → found ≡ other → Told at logs behind found → Told at logs behind other
-placed_at at logs behind found other is h = subst (λ (f : Placing). Told at logs behind f) is h
-
-pub logs_at : (logs : List (List ℕ)) (found other : Found) → found ≡ other → AreFound logs found → AreFound logs other
-logs_at logs found other is h = subst (λ (f : Found). AreFound logs f) is h
-
-pub some_at : (found other : Found) → found ≡ other → AreFoundOfSome found → AreFoundOfSome other
-some_at found other is h = subst AreFoundOfSome is h
+-- the laws that are called
+pub record AreLaws : Type 0 where
+  pub merge : AreMerged
+  pub place : PlacingTells
+  pub stand : FoundAreTold
+  pub out : OutIsFirst
+  pub open_of : OpenAreAll
+  pub rows_of : RowsAreAll
 
 -- ---- each clause that fails where those before it hold
 
@@ -115,16 +87,13 @@ tables_breach at logs behind id trans placed wrong = record { before = (trans, p
 pub turns_breach : (at : Images) (logs : List Log) (behind : ℕ) (s : Spot) → AreTransactions logs → ArePlaced at logs behind → AreTables logs → IsOutOfTurn logs s → IsBreach at logs behind (breach_of clause.Turns s)
 turns_breach at logs behind s trans placed tables out = record { before = (trans, placed, tables); fails = out }
 
-pub numbers_breach : (at : Images) (logs : List Log) (s : Spot) → LackNumbers logs s → IsLastBreach at logs (breach_of clause.Numbers s)
-numbers_breach at logs s lack = λ behind trans placed tables turns. record { before = (trans, placed, tables, turns); fails = lack }
+pub numbers_breach : (at : Images) (logs : List Log) (behind : ℕ) (s : Spot) → AreTransactions logs → ArePlaced at logs behind → AreTables logs → ChangeInTurn logs → LackNumbers logs s → IsBreach at logs behind (breach_of clause.Numbers s)
+numbers_breach at logs behind s trans placed tables turns lack = record { before = (trans, placed, tables, turns); fails = lack }
 
-pub unkept_breach : (at : Images) (logs : List Log) (s : Spot) → NumbersAreLeft logs → IsUnkept at logs s → IsLastBreach at logs (breach_of clause.Checkpoints s)
-unkept_breach at logs s numbers unkept = λ behind trans placed tables turns. record { before = (trans, placed, tables, turns, numbers); fails = unkept }
+pub unkept_breach : (at : Images) (logs : List Log) (behind : ℕ) (s : Spot) → AreTransactions logs → ArePlaced at logs behind → AreTables logs → ChangeInTurn logs → NumbersAreLeft logs → IsUnkept at logs s → IsBreach at logs behind (breach_of clause.Checkpoints s)
+unkept_breach at logs behind s trans placed tables turns numbers unkept = record { before = (trans, placed, tables, turns, numbers); fails = unkept }
 
 -- ---- the verdict
-
-abbrev Rows : List Log → ℕ → Type 0
-Rows logs rows = rows ≡ length (listed (rows_of_logs (records_of logs)))
 
 pub told_breach : (c : Contents) (logs : List Log) (behind : ℕ) (b : Breach) → AreWholeLogs 1 c.logs logs → IsBreach (page_at c.pages) logs behind b → IsTold c behind (verdict.Unsound b)
 told_breach c logs behind b whole breach = inr (record { logs = logs; whole = whole; breach = breach })
@@ -145,75 +114,148 @@ told_right c logs behind pages rows whole right = record {
   };
 }
 
-last_told : (c : Contents) (logs : List Log) (behind pages rows : ℕ) (last : Option Breach) → AreFit c logs → AreAllPlaced (page_at c.pages) logs behind pages → AreTables logs → ChangeInTurn logs
-    → AreLastJudged (page_at c.pages) logs last → Rows logs rows → IsTold c behind (verdict_by last pages rows)
-last_told c logs behind pages rows None fit placed tables turns last is =
-    told_right c logs behind pages rows fit.whole
-    (record { transactions = fit.transactions; placed = placed; tables = tables; turns = turns; numbers = last.0; checkpoints = last.1; rows_are = is })
-last_told c logs behind pages rows (Some b) fit placed tables turns last is = told_breach c logs behind b fit.whole (last behind fit.transactions placed.read tables turns)
-
--- rows are changed in turn
-pub turns_told : (c : Contents) (records : List LogRecord) (said : Said) (pages : ℕ) (v : Verdict) → v ≡ verdict_of said pages → are_in_turn [] records ≡ true → AreTurnsTold c records said pages v
-turns_told c records said pages v is turns = λ logs behind fit s placed tables.
-    subst (λ (w : Verdict). IsTold c behind w) (sym is)
-    (last_told c logs behind pages said.rows said.last fit placed tables (subst (λ (rs : List LogRecord). are_in_turn [] rs ≡ true) s.records_are turns) s.last_is s.rows_are)
-
--- or they aren't
-pub out_told : (c : Contents) (records : List LogRecord) (said : Said) (pages n : ℕ) (found : Option ℕ) (v : Verdict) → found ≡ out_of_turn [] records → found ≡ Some n → IsOutTold c n v → AreTurnsTold c records said pages v
-out_told c records said pages n found v is some told = λ logs behind fit s placed tables.
-    told logs behind fit placed.read tables (subst (λ (rs : List LogRecord). out_of_turn [] rs ≡ Some n) s.records_are (sym is ∙ some))
-
-pub place_told : AreTold → (c : Contents) (n : ℕ) (logs slice : List Log) (at : Spot) → AreWholeLogs 1 c.logs logs → slice ≡ logs → (out_of_turn [] (merged slice) ≡ Some n → IsOutOfTurn slice at)
-    → IsOutTold c n (verdict.Unsound (breach_of clause.Turns at))
-place_told one c n logs slice at whole same out = λ its behind fit placed tables e.
-    let are : slice ≡ its = same ∙ one 1 c.logs logs its whole fit.whole in
-    let is_out : IsOutOfTurn its at = subst (λ (l : List Log). out_of_turn [] (merged l) ≡ Some n → IsOutOfTurn l at) are out e in
-    told_breach c its behind (breach_of clause.Turns at) fit.whole (turns_breach (page_at c.pages) its behind at fit.transactions placed tables is_out)
-
-pub broken_of : (c : Contents) (behind member at : ℕ) → IsFirstBroken c.logs member at → IsTold c behind (verdict.Unsound (breach_of clause.WholeLogs (spot.Log member at)))
+pub broken_of : (c : Contents) (behind member at : ℕ) → IsFirstBroken c.logs member at → IsTold c behind (unsound clause.WholeLogs (spot.Log member at))
 broken_of c behind member at off = inl (record { clause_is = refl; spot_is = off })
 
--- the fourth clause
-pub tables_told : (c : Contents) (records : List LogRecord) (said : Said) (pages : ℕ) (page : Option PageId) (id : PageId) → AreTablesJudged records page → page ≡ Some id
-    → ArePlacedTold c records said pages (verdict.Unsound (breach_of clause.Tables (spot.Page id)))
-tables_told c records said pages page id judged is = λ logs behind fit s placed.
-    told_breach c logs behind (breach_of clause.Tables (spot.Page id)) fit.whole
-    (tables_breach (page_at c.pages) logs behind id fit.transactions placed.read (tables_fail logs records page id judged is s.records_are))
+-- ---- what holds of the merged records
 
-pub placed_told : (c : Contents) (records : List LogRecord) (said : Said) (pages : ℕ) (page : Option PageId) (v : Verdict) → AreTablesJudged records page → page ≡ None → AreTurnsTold c records said pages v → ArePlacedTold c records said pages v
-placed_told c records said pages page v judged is told = λ logs behind fit s placed. told logs behind fit s placed (tables_hold logs records page judged is s.records_are)
+allowed_of : AreMerged → (c : Contents) (ends : List ℕ) (great : ℕ) (logs : List Log) → AreFit c ends great logs → AllByRecursion IsAllowed (merged logs)
+allowed_of merge c ends great logs fit = (merge c.logs logs fit.ended.whole fit.transactions).0
 
--- the third
-pub unplaced_told : (c : Contents) (records : List LogRecord) (said : Said) (behind : ℕ) (found : Placing) (id : PageId) → AreToldBy (page_at c.pages) records said.renews behind found → found ≡ placing.Unplaced id
-    → ArePagesTold c records said behind (verdict.Unsound (breach_of clause.Versions (spot.Page id)))
-unplaced_told c records said behind found id told is = λ logs fit s.
-    told_breach c logs behind (breach_of clause.Versions (spot.Page id)) fit.whole
-    (unplaced_breach (page_at c.pages) logs behind id fit.transactions (placed_at (page_at c.pages) logs behind found (placing.Unplaced id) is (told logs s.records_are s.renews_is)))
+-- ---- the third clause
 
-pub pages_told : (c : Contents) (records : List LogRecord) (said : Said) (behind pages : ℕ) (found : Placing) (v : Verdict) → AreToldBy (page_at c.pages) records said.renews behind found → found ≡ placing.All pages
-    → ArePlacedTold c records said pages v → ArePagesTold c records said behind v
-pages_told c records said behind pages found v told is more = λ logs fit s.
-    more logs behind fit s (placed_at (page_at c.pages) logs behind found (placing.All pages) is (told logs s.records_are s.renews_is))
+placed_of : AreLaws → (c : Contents) (ends : List ℕ) (great behind : ℕ) (t : TablesTold) (logs : List Log) → AreTabled c ends great behind t logs → AreAllPlaced (page_at c.pages) logs behind t.pages
+placed_of laws c ends great behind t logs is = laws.place (page_at c.pages) logs behind (placing.All t.pages) is.told.placed
 
--- ---- whole logs
+pub unplaced_told : PlacingTells → (c : Contents) (ends : List ℕ) (great behind : ℕ) (logs : List Log) (id : PageId) → AreFit c ends great logs → IsFirstInSets (page_at c.pages) (merged logs) (must_renew logs) behind page_sets id
+    → IsTold c behind (unsound clause.Versions (spot.Page id))
+unplaced_told place c ends great behind logs id fit first =
+    told_breach c logs behind (breach_of clause.Versions (spot.Page id)) fit.ended.whole
+    (unplaced_breach (page_at c.pages) logs behind id fit.transactions (place (page_at c.pages) logs behind (placing.Unplaced id) first))
 
-allowed_from : (member : ℕ) (bytes : List (List ℕ)) (logs : List Log) → AreWholeLogs member bytes logs → AreAllowed logs
-allowed_from member [] [] are = tt
-allowed_from member [] (l ∷ logs) are = absurd are
-allowed_from member (b ∷ bytes) [] are = absurd are
-allowed_from member (b ∷ bytes) (l ∷ logs) are = (are.0.records_are.allowed, allowed_from (member + 1) bytes logs are.1)
+-- ---- the fourth
 
-pub allowed_of : (logs slice : List Log) → AreOfSome logs → slice ≡ logs → AreAllowed slice
-allowed_of logs slice some same = subst AreAllowed (sym same) (allowed_from 1 some.bytes logs some.are)
+all_whole : (at : Images) (records : List LogRecord) → AreWholeUpTo at records 64 None → AreAllWhole at records
+all_whole at records h = λ table is. h table is.0 is.1
 
-pub fit_told : (c : Contents) (logs a b d : List Log) (records : List LogRecord) (renews : Bool) (last : Option Breach) (rows behind : ℕ) (v : Verdict) → AreTransactions logs → a ≡ logs → b ≡ logs → d ≡ logs
-    → AreLastJudged (page_at c.pages) a last → Rows b rows → renews ≡ must_renew d → records ≡ merged logs
-    → ArePagesTold c records (record { renews = renews; last = last; rows = rows }) behind v → AreWholeLogs 1 c.logs logs → IsTold c behind v
-fit_told c logs a b d records renews last rows behind v trans a_is b_is d_is judged is renew are told whole =
-    told logs (record { whole = whole; transactions = trans })
-    (record {
-      records_are = are;
-      renews_is = renew ∙ ap must_renew d_is;
-      last_is = subst (λ (l : List Log). AreLastJudged (page_at c.pages) l last) a_is judged;
-      rows_are = subst (λ (l : List Log). Rows l rows) b_is is;
+stood_of : FoundAreTold → (records : List LogRecord) (first : Option Unstood) → AllByRecursion IsAllowed records → AreStoodUpTo records 64 first → AreStood records (page_in first)
+stood_of law records first allowed is = law is.has records first allowed is.passes is.found
+
+whole_by : (records : List LogRecord) (unwhole : Option PageId) (first : Option Unstood) → wrong_by unwhole first ≡ None → AreWholeUpTo (images_of records) records 64 unwhole → AreStood records (page_in first) → AreWholeTables records
+whole_by records None first none whole stood = record { tables = all_whole (images_of records) records whole; befores = subst (λ (p : Option PageId). AreStood records p) none stood }
+whole_by records (Some id) first none whole stood = absurd cc
+
+wrong_of : (records : List LogRecord) (unwhole : Option PageId) (first : Option Unstood) (id : PageId) → wrong_by unwhole first ≡ Some id → AreWholeUpTo (images_of records) records 64 unwhole → AreStood records (page_in first)
+    → (AreWholeTables records → ⊥) × IsTablesPage records id
+wrong_of records None first id some whole stood =
+    let told : AreStood records (Some id) = subst (λ (p : Option PageId). AreStood records p) some stood in
+    (λ w. told.lacking w.befores, inr (all_whole (images_of records) records whole, told))
+wrong_of records (Some other) first id some whole stood =
+    let same : other ≡ id = cc in
+    let is : IsFirstUnwhole (images_of records) records id = subst (λ (i : PageId). IsFirstUnwhole (images_of records) records i) same whole in
+    (λ w. is.unwhole (w.tables is.table is.is_table), inl is)
+
+tables_of : AreLaws → (c : Contents) (ends : List ℕ) (great behind : ℕ) (t : TablesTold) (logs : List Log) → wrong_page t ≡ None → AreTabled c ends great behind t logs → AreTables logs
+tables_of laws c ends great behind t logs none is =
+    whole_by (merged logs) t.unwhole t.unstood none is.told.whole (stood_of laws.stand (merged logs) t.unstood (allowed_of laws.merge c ends great logs is.fit) is.told.stood)
+
+pub tables_told : AreMerged → PlacingTells → FoundAreTold → (c : Contents) (ends : List ℕ) (great behind : ℕ) (t : TablesTold) (logs : List Log) (id : PageId) → wrong_page t ≡ Some id → AreTabled c ends great behind t logs → IsTold c behind (unsound clause.Tables (spot.Page id))
+tables_told merge place stand c ends great behind t logs id some is =
+    told_breach c logs behind (breach_of clause.Tables (spot.Page id)) is.fit.ended.whole
+    (tables_breach (page_at c.pages) logs behind id is.fit.transactions (place (page_at c.pages) logs behind (placing.All t.pages) is.told.placed).read
+    (wrong_of (merged logs) t.unwhole t.unstood id some is.told.whole (stood_of stand (merged logs) t.unstood (allowed_of merge c ends great logs is.fit) is.told.stood)))
+
+-- ---- the fifth
+
+out_is : AreLaws → (c : Contents) (ends : List ℕ) (great behind : ℕ) (t : TablesTold) (logs : List Log) → AreTabled c ends great behind t logs → out_of_turn [] (merged logs) ≡ number_in t.turns.out
+out_is laws c ends great behind t logs is = laws.out is.told.turns.has (merged logs) t.turns (allowed_of laws.merge c ends great logs is.fit) is.told.turns.passes is.told.turns.told
+
+none_when : (b : Bool) (o : Option ℕ) (c : Bool) (n : ℕ) → (if b then o else Some n) ≡ None → (o ≡ None → c ≡ true) → (b && c) ≡ true
+none_when true o c n h k = k h
+none_when false o c n h k = absurd cc
+
+some_when : (b : Bool) (o : Option ℕ) (c : Bool) (m n : ℕ) → (if b then o else Some m) ≡ Some n → (b && c) ≡ true → (o ≡ Some n → c ≡ true → ⊥) → ⊥
+some_when true o c m n h k f = f h k
+some_when false o c m n h k f = absurd cc
+
+none_out : (earlier records : List LogRecord) → out_of_turn earlier records ≡ None → are_in_turn earlier records ≡ true
+none_out earlier [] h = refl
+none_out earlier (r ∷ rs) h = none_when (is_in_turn earlier r.tran r.body) (out_of_turn (earlier ++ r ∷ []) rs) (are_in_turn (earlier ++ r ∷ []) rs) r.lrsn h (none_out (earlier ++ r ∷ []) rs)
+
+some_out : (earlier records : List LogRecord) (n : ℕ) → out_of_turn earlier records ≡ Some n → are_in_turn earlier records ≡ true → ⊥
+some_out earlier [] n h k = absurd cc
+some_out earlier (r ∷ rs) n h k = some_when (is_in_turn earlier r.tran r.body) (out_of_turn (earlier ++ r ∷ []) rs) (are_in_turn (earlier ++ r ∷ []) rs) r.lrsn n h k (some_out (earlier ++ r ∷ []) rs n)
+
+turns_of : AreLaws → (c : Contents) (ends : List ℕ) (great behind : ℕ) (t : TablesTold) (logs : List Log) → t.turns.out ≡ None → AreTabled c ends great behind t logs → ChangeInTurn logs
+turns_of laws c ends great behind t logs none is = none_out [] (merged logs) (out_is laws c ends great behind t logs is ∙ ap number_in none)
+
+pub turns_told : AreLaws → (c : Contents) (ends : List ℕ) (great behind : ℕ) (t : TablesTold) (logs : List Log) (out : OutOfTurn) (found : Option Spot) (at : Spot) → wrong_page t ≡ None → t.turns.out ≡ Some out → found ≡ drawn_spot_of out.number logs → found ≡ Some at
+    → AreTabled c ends great behind t logs → IsTold c behind (unsound clause.Turns at)
+turns_told laws c ends great behind t logs out found at none some found_is found_at is =
+    let number : out_of_turn [] (merged logs) ≡ Some out.number = out_is laws c ends great behind t logs is ∙ ap number_in some in
+    told_breach c logs behind (breach_of clause.Turns at) is.fit.ended.whole
+    (turns_breach (page_at c.pages) logs behind at is.fit.transactions (placed_of laws c ends great behind t logs is).read (tables_of laws c ends great behind t logs none is)
+    (record { lacking = some_out [] (merged logs) out.number number; spot_is = ap (located logs) number ∙ sym found_is ∙ found_at }))
+
+-- ---- the sixth
+
+open_is : AreLaws → (c : Contents) (ends : List ℕ) (great behind : ℕ) (t : TablesTold) (logs : List Log) → t.turns.out ≡ None → AreTabled c ends great behind t logs → t.turns.open ≡ length (open_changes (all_records logs))
+open_is laws c ends great behind t logs none is = laws.open_of is.told.turns.has logs t.turns (allowed_of laws.merge c ends great logs is.fit) is.told.turns.passes is.told.turns.told none
+
+pub numbers_told : AreLaws → NumbersTell → (c : Contents) (ends : List ℕ) (great behind : ℕ) (t : TablesTold) (logs : List Log) (found : Option Spot) (at : Spot) → wrong_page t ≡ None → t.turns.out ≡ None → (IsLrsn (great + t.turns.open) → ⊥) → found ≡ spot_of great logs
+    → found ≡ Some at → AreTabled c ends great behind t logs → IsTold c behind (unsound clause.Numbers at)
+numbers_told laws law c ends great behind t logs found at none none_turned lack found_is found_at is =
+    told_breach c logs behind (breach_of clause.Numbers at) is.fit.ended.whole
+    (numbers_breach (page_at c.pages) logs behind at is.fit.transactions (placed_of laws c ends great behind t logs is).read (tables_of laws c ends great behind t logs none is) (turns_of laws c ends great behind t logs none_turned is)
+    (subst (λ (f : Option Spot). AreNumbersTold logs f) found_at (law logs great t.turns.open found is.fit.greatest_is (open_is laws c ends great behind t logs none_turned is) lack found_is)))
+
+-- enough are left
+left_of : AreLaws → (c : Contents) (ends : List ℕ) (great behind : ℕ) (t : TablesTold) (logs : List Log) → t.turns.out ≡ None → IsLrsn (great + t.turns.open) → AreTabled c ends great behind t logs → NumbersAreLeft logs
+left_of laws c ends great behind t logs none left is =
+    subst (λ (n : ℕ). IsLrsn (n + length (open_changes (all_records logs)))) is.fit.greatest_is (subst (λ (n : ℕ). IsLrsn (great + n)) (open_is laws c ends great behind t logs none is) left)
+
+-- ---- the seventh
+
+pub kept_told : AreLaws → (c : Contents) (ends : List ℕ) (great behind : ℕ) (t : TablesTold) (logs : List Log) (found : Option Spot) → wrong_page t ≡ None → t.turns.out ≡ None → IsLrsn (great + t.turns.open) → found ≡ None → AreKept (page_at c.pages) logs found
+    → AreTabled c ends great behind t logs → IsTold c behind (verdict.Sound t.pages t.turns.rows)
+kept_told laws c ends great behind t logs found none none_turned left is_none kept is =
+    told_right c logs behind t.pages t.turns.rows is.fit.ended.whole (record {
+      transactions = is.fit.transactions;
+      placed = placed_of laws c ends great behind t logs is;
+      tables = tables_of laws c ends great behind t logs none is;
+      turns = turns_of laws c ends great behind t logs none_turned is;
+      numbers = left_of laws c ends great behind t logs none_turned left is;
+      checkpoints = subst (λ (f : Option Spot). AreKept (page_at c.pages) logs f) is_none kept;
+      rows_are = laws.rows_of is.told.turns.has logs t.turns (allowed_of laws.merge c ends great logs is.fit) is.told.turns.passes is.told.turns.told none_turned;
     })
+
+pub unkept_told : AreLaws → (c : Contents) (ends : List ℕ) (great behind : ℕ) (t : TablesTold) (logs : List Log) (found : Option Spot) (at : Spot) → wrong_page t ≡ None → t.turns.out ≡ None → IsLrsn (great + t.turns.open) → found ≡ Some at → AreKept (page_at c.pages) logs found
+    → AreTabled c ends great behind t logs → IsTold c behind (unsound clause.Checkpoints at)
+unkept_told laws c ends great behind t logs found at none none_turned left some kept is =
+    told_breach c logs behind (breach_of clause.Checkpoints at) is.fit.ended.whole
+    (unkept_breach (page_at c.pages) logs behind at is.fit.transactions (placed_of laws c ends great behind t logs is).read (tables_of laws c ends great behind t logs none is) (turns_of laws c ends great behind t logs none_turned is)
+    (left_of laws c ends great behind t logs none_turned left is) (subst (λ (f : Option Spot). AreKept (page_at c.pages) logs f) some kept))
+
+-- ---- before the tables
+
+pub not_left : (b : Bool) (P : Type 0) → b ≡ false → IsTrue b ↔ P → P → ⊥
+not_left b P e h p = absurd (cc (e, h.1 p))
+
+pub ended_of : (c : Contents) (behind : ℕ) (ends slice : List ℕ) (v : Verdict) → slice ≡ ends → AreWholeTo c.logs ends → TellsEnded slice behind v c → IsTold c behind v
+ended_of c behind ends slice v same whole told = told whole.logs (record { whole = whole.are; ends_are = same ∙ whole.ends_are })
+
+pub unfit_told : (c : Contents) (ends : List ℕ) (behind : ℕ) (logs : List Log) (found : Option Spot) (at : Spot) → AreEnded c ends logs → found ≡ Some at → AreFitTold found logs → IsTold c behind (unsound clause.Transactions at)
+unfit_told c ends behind logs found at ended some told =
+    let unfit : (AreTransactions logs → ⊥) × IsRecordOf (IsFirstBreach AreTransactions logs) at = subst (λ (f : Option Spot). AreFitTold f logs) some told in
+    told_breach c logs behind (breach_of clause.Transactions at) ended.whole (unfit_breach (page_at c.pages) logs behind at unfit.0 unfit.1)
+
+pub fit_now : (c : Contents) (ends : List ℕ) (great : ℕ) (logs : List Log) (found : Option Spot) → AreEnded c ends logs → found ≡ None → AreFitTold found logs → great ≡ greatest (all_records logs) → AreFit c ends great logs
+fit_now c ends great logs found ended none told great_is = record { ended = ended; transactions = subst (λ (f : Option Spot). AreFitTold f logs) none told; greatest_is = great_is }
+
+-- row changes before the Commit
+early_same : (earlier rs : List LogRecord) → orders.are_early earlier rs ≡ passing.are_early earlier rs
+early_same earlier [] = refl
+early_same earlier (r ∷ rs) = ap (λ (b : Bool). orders.is_early earlier r && b) (early_same (earlier ++ r ∷ []) rs)
+
+pub early_of : (logs : List Log) → passing.are_early [] (by_lrsn (all_records logs)) ≡ true → orders.are_early [] (by_lrsn (all_records logs)) ≡ true
+early_of logs h = early_same [] (by_lrsn (all_records logs)) ∙ h

@@ -1,6 +1,7 @@
 pub mod Clauses
 pub mod Judging
 pub mod Verdicts
-pub mod Telling
 pub mod Laws
-pub mod Quick
+pub mod Scans
+pub mod Tables
+pub mod Telling

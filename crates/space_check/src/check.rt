@@ -1,77 +1,90 @@
-ghost use Rattle.disk_logs.specs.Looking.{AreOfSome};
-ghost use Rattle.disk_versions.specs.Reading.{Reads};
+ghost use Rattle.std.specs.Prelude.{◌≡◌, length, true, IfOk};
+ghost use Rattle.disk_walk.specs.Reading.{Reads};
+ghost use Rattle.disk_walk.specs.Whole.{OfWholeLogs};
+ghost use Rattle.fitting_records.specs.Telling.{AreFitTold};
 ghost use Rattle.sound_disk.specs.Transactions.{AreTransactions};
-ghost use Rattle.sound_disk.specs.Whole_logs.{AreWholeLogs};
+ghost use Rattle.space_check.specs.Telling.{TellsEnded, TellsFit};
 ghost use Rattle.space_check.specs.Verdicts.{IsTold};
 
-use crate::logs::{count_rows, find_last};
-use crate::pages::check_pages;
-use crate::quick::{Counts, find_sound};
-use crate::said::Said;
-use crate::verdict::{Breach, Clause, Verdict};
-use disk_logs::{Found, LogList, into_merged, read_logs};
+use crate::clauses::{check_found, unsound};
+use crate::ranges::tell_tables;
+use crate::verdict::{Clause, Verdict};
+use crate::walk::BLOCK;
+use disk_logs::{Ends, find_all_ends};
 use disk_spots::Spot;
-use disk_versions::{BEHIND, must_renew};
+use disk_versions::BEHIND;
+use ds_base::NoMemory;
 use ds_disk::{Disk, DiskError};
-use fitting_records::find_unfit;
-use sound_disk::page_laws;
+use fitting_records::{Summary, find_first_unfit, summarize};
+use row_turns::order_laws;
 use std::alloc::Global;
 
-// The clauses from the third on, of whole logs of which the second holds. What they tell by themselves is asked before their
-// records are put in order.
-fn check_fit<D: Disk>(
-    alloc: Global,
-    disk: &mut D,
-    logs: LogList,
-    behind: u32,
-) -> Result<Verdict, DiskError>
-    requires some { AreOfSome logs }
-    requires transactions { AreTransactions logs }
-    ensures { Reads (D.contents disk.old) (D.contents disk.new) (D.faults disk.old) (D.faults disk.new) (λ v c. AreWholeLogs 1 c.logs logs → IsTold c behind v) result }
+fn zeros(alloc: Global) -> Result<Vec<u8>, NoMemory>
+    ensures { IfOk result (λ zeros. length zeros.items ≡ 65536) }
 {
-    page_laws();
-    let last = find_last(alloc, disk, logs.as_slice())?;
-    let rows = count_rows(alloc, logs.as_slice())?;
-    let renews = must_renew(logs.as_slice());
-    let records = into_merged(alloc, logs)?;
-    check_pages(alloc, disk, &records, Said { renews, last, rows }, behind)
+    Ok(vec![in alloc; 0u8; BLOCK]?)
 }
 
-// The clauses from the second on, of logs that are whole records.
-fn check_logs<D: Disk>(
+// The first record that doesn't fit those before it, if they aren't known to fit each other.
+fn find_unfit<D: Disk>(
     alloc: Global,
     disk: &mut D,
-    logs: LogList,
-    behind: u32,
-) -> Result<Verdict, DiskError>
-    requires { AreOfSome logs }
-    ensures { Reads (D.contents disk.old) (D.contents disk.new) (D.faults disk.old) (D.faults disk.new) (λ v c. AreWholeLogs 1 c.logs logs → IsTold c behind v) result }
+    ends: &[u64],
+    fits: bool,
+) -> Result<Option<Spot>, DiskError>
+    requires { length ends.now ≡ 32 }
+    ensures { Reads (D.contents disk.old) (D.contents disk.new) (D.faults disk.old) (D.faults disk.new) (λ found c. OfWholeLogs ends.now (λ logs. (fits ≡ true → AreTransactions logs) → AreFitTold found logs) c) result }
 {
-    let spot = find_unfit(alloc, logs.as_slice())?;
-    match spot {
-        None => check_fit(alloc, disk, logs, behind),
-        Some(at) => Ok(Verdict::Unsound {
-            breach: Breach {
-                clause: Clause::Transactions,
-                at,
-            },
-        }),
+    if fits {
+        Ok(None)
+    } else {
+        find_first_unfit(alloc, disk, ends)
     }
 }
 
-// The same by the records of all logs in memory, which tells of each disk which clause fails first, and where.
-fn check_whole<D: Disk>(alloc: Global, disk: &mut D, behind: u32) -> Result<Verdict, DiskError>
-    ensures { Reads (D.contents disk.old) (D.contents disk.new) (D.faults disk.old) (D.faults disk.new) (λ v c. IsTold c behind v) result }
+// The clauses from the third on, of logs of which the second holds.
+fn check_fit<D: Disk>(
+    alloc: Global,
+    disk: &mut D,
+    ends: &[u64],
+    summary: &Summary,
+    behind: u32,
+    block: &mut [u8],
+) -> Result<Verdict, DiskError>
+    requires ends { length ends.now ≡ 32 }
+    requires block { length block.old ≡ 65536 }
+    ensures { Reads (D.contents disk.old) (D.contents disk.new) (D.faults disk.old) (D.faults disk.new) (λ v c. TellsFit ends.now summary.now behind v c) result }
 {
-    let found = read_logs(alloc, disk)?;
+    order_laws();
+    let found = tell_tables(
+        alloc,
+        disk,
+        ends,
+        &summary.counts,
+        summary.fits,
+        summary.renews,
+        behind,
+        block,
+    )?;
+    check_found(alloc, disk, ends, summary.greatest, found)
+}
+
+// The clauses from the second on, of whole logs whose records end at these bytes.
+fn check_ended<D: Disk>(
+    alloc: Global,
+    disk: &mut D,
+    ends: &[u64],
+    behind: u32,
+) -> Result<Verdict, DiskError>
+    requires { length ends.now ≡ 32 }
+    ensures { Reads (D.contents disk.old) (D.contents disk.new) (D.faults disk.old) (D.faults disk.new) (λ v c. TellsEnded ends.now behind v c) result }
+{
+    let mut block = zeros(alloc)?;
+    let summary = summarize(alloc, disk, ends, &mut block)?;
+    let found = find_unfit(alloc, disk, ends, summary.fits)?;
     match found {
-        Found::Whole(logs) => check_logs(alloc, disk, logs, behind),
-        Found::Broken { member, at } => Ok(Verdict::Unsound {
-            breach: Breach {
-                clause: Clause::WholeLogs,
-                at: Spot::Log { member, at },
-            },
-        }),
+        Some(at) => Ok(unsound(Clause::Transactions, at)),
+        None => check_fit(alloc, disk, ends, &summary, behind, &mut block),
     }
 }
 
@@ -79,16 +92,18 @@ fn check_whole<D: Disk>(alloc: Global, disk: &mut D, behind: u32) -> Result<Verd
 pub fn check_behind<D: Disk>(alloc: Global, disk: &mut D, behind: u32) -> Result<Verdict, DiskError>
     ensures { Reads (D.contents disk.old) (D.contents disk.new) (D.faults disk.old) (D.faults disk.new) (λ v c. IsTold c behind v) result }
 {
-    let sound = find_sound(alloc, disk, behind)?;
-    match sound {
-        Some(Counts { pages, rows }) => Ok(Verdict::Sound { pages, rows }),
-        None => check_whole(alloc, disk, behind),
+    let found = find_all_ends(alloc, disk)?;
+    match found {
+        Ends::Broken { member, at } => Ok(unsound(Clause::WholeLogs, Spot::Log { member, at })),
+        Ends::Whole { ends } => check_ended(alloc, disk, &ends, behind),
     }
 }
 
-/// Whether the disk is sound; nothing is written. Of one that is known to be sound by its tables, one at a time, the records of one
-/// table alone are in memory. Any other is read once more: the logs one at a time, whose records are kept, each once, and the
-/// pages one at a time.
+/// Whether the disk is sound, and if it isn't, which clause fails first, and where; nothing is written.
+///
+/// The logs are read by blocks, and the pages one at a time. In memory are the pages and the rows of some tables at a time, as the
+/// records make them, and what is open; of logs whose records don't fit each other also what is asked of a range of numbers at a
+/// time. No list of records is held.
 pub fn check_disk<D: Disk>(alloc: Global, disk: &mut D) -> Result<Verdict, DiskError>
     ensures { Reads (D.contents disk.old) (D.contents disk.new) (D.faults disk.old) (D.faults disk.new) (λ v c. IsTold c 1024 v) result }
 {

@@ -2,14 +2,13 @@
 #![tactic(auto)]
 
 mod check;
+mod clauses;
 mod laws;
-mod logs;
-mod own;
-mod pages;
-mod quick;
-mod said;
-mod tables;
+mod ranges;
+mod scan;
+mod told;
 mod verdict;
+mod walk;
 
 pub use check::check_disk;
 pub use disk_spots::Spot;

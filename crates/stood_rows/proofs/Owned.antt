@@ -1,30 +1,21 @@
 -- Slots that stay their keys', page by page and patch by patch.
-use Rattle.std.proofs.Common.{◌≡◌, ◌↔◌, ℕ, ◌+◌, ◌-◌, ◌*◌, ◌/◌, ◌%◌, ◌<◌, ◌≤◌, Bool, true, false, Option, Some, None, Result, Ok, Err, List, [], ◌∷◌, ◌++◌, length, get_or, take, drop, inl, inr, refl, sym, ap, subst, ◌∙◌, arith, if◌then◌else◌}
-use Rattle.std.specs.Prelude.{◌==◌, ◌||◌, nat_lt, IsTrue, IfOk}
+use Rattle.std.proofs.Common.{◌≡◌, ◌↔◌, ℕ, ◌+◌, ◌-◌, ◌*◌, ◌/◌, ◌%◌, ◌<◌, ◌≤◌, Bool, true, false, Option, Some, None, List, [], ◌∷◌, ◌++◌, length, get_or, take, drop, inl, inr, refl, sym, ap, subst, ◌∙◌, arith, if◌then◌else◌}
+use Rattle.std.specs.Prelude.{◌==◌, ◌||◌, nat_lt, IsTrue}
 use Rattle.std.specs.List.{list_any, AllByRecursion}
-use Rattle.std.proofs.Math.Path.{fun_ext}
 use Rattle.std.proofs.lemmas.Bool.{cases_lt, ltb-true}
 use Rattle.std.proofs.lemmas.Bool.Decides.{nat_tests}
-use Rattle.std.proofs.lemmas.List.{take_more, take-append-drop, drop_more}
+use Rattle.std.proofs.lemmas.List.{take-append-drop, drop_more}
 use Rattle.ds_base.specs.Pages.{same_page, heap_page}
 use Rattle.ds_base.specs.declared.names.PageId.{PageId}
 use Rattle.ds_base.specs.declared.names.Place.{Place}
-use Rattle.ds_model.specs.declared.log.LogRecord.{LogRecord}
-use Rattle.ds_model.specs.declared.log.Body.{Body}
-use Rattle.ds_model.specs.declared.log.Body.TheVariants as body
-use Rattle.page_format.specs.Fields.{number_in}
 use Rattle.page_format.specs.Header.{slots_per_page}
 use Rattle.page_format.specs.declared.patch.Patch.{Patch}
 use Rattle.heap_space.specs.Slots.{content, slot_in}
 use Rattle.heap_space.specs.Written.{after_patch, written}
-use Rattle.page_images.specs.Images.{Images, zeros, after_change}
-use Rattle.page_chain.specs.Chains.{images_of}
+use Rattle.page_images.specs.Images.{Images, after_change}
 use Rattle.sound_disk.specs.Layouts.{count_in}
 use Rattle.sound_disk.specs.Rows_there.{key_in, IsPlaceOf, SlotsStay}
-use Rattle.row_befores.specs.Befores.{RowBefore}
-use Rattle.stood_rows.specs.Held.{images_in, AreImages}
-use Rattle.stood_rows.specs.Owners.{owner, is_kept, OwnersStay, StayOn, TakesSlots, AreSlotsTold}
-use Rattle.stood_rows.specs.Standing.{IsBodyTold}
+use Rattle.stood_rows.specs.Owners.{owner, is_kept, OwnersStay, StayOn, TakesSlots}
 use Rattle.stood_rows.proofs.Kept.{decide, same_name}
 
 -- ---- the owner of a slot
@@ -62,9 +53,6 @@ kept_not (Some k) (Some its) h f =
     let same : its ≡ k = cc in
     let equal : (its == k) ≡ true = grind (arith, nat_tests) in
     absurd cc
-
-pub none_stay : (before behind : List ℕ) → OwnersStay 0 before behind
-none_stay before behind slot key lt is = absurd (omega arith)
 
 pub more_stay : (before behind : List ℕ) (n : ℕ) → OwnersStay n before behind → is_kept (owner before n) (owner behind n) ≡ true → OwnersStay (n + 1) before behind
 more_stay before behind n h kept slot key lt is = elim (cases_lt slot n) [
@@ -108,18 +96,6 @@ heap_stay at behind id before after b some few odd was is test = (
       (subst (λ (p : List ℕ). OwnersStay slots_per_page p (behind id)) (sym was) (stay_only at behind id some few odd s))),
 )
 
--- a page of an index
-pub index_stays : (at behind : Images) (id : PageId) → id.set % 2 ≡ 0 → StayOn at behind id
-index_stays at behind id even table key place some few name is =
-    let e : 2 * table - 1 ≡ id.set = ap (λ (i : PageId). i.set) name in
-    absurd (omega (arith, e, some.0, even))
-
--- a page of zeros
-pub zeros_stay : ((at width : ℕ) → number_in zeros at width ≡ 0) → (at behind : Images) (id : PageId) → at id ≡ zeros → StayOn at behind id
-zeros_stay none at behind id blank table key place some few name is =
-    let zero_slots : count_in (at (heap_page table place.page)) ≡ 0 = ap (λ (i : PageId). count_in (at i)) name ∙ ap (λ (p : List ℕ). count_in p) blank ∙ none 26 2 in
-    absurd (omega (arith, is.given, zero_slots))
-
 -- ---- all patches
 
 on_page : (at behind : Images) (id : PageId) (ps : List Patch) → list_any (λ (p : Patch). same_page p.page id) ps ≡ true → AllByRecursion (λ (p : Patch). StayOn at behind p.page) ps → StayOn at behind id
@@ -138,7 +114,7 @@ off_page id lrsn (p ∷ ps) page f =
     ap (λ (b : Bool). written id lrsn ps (if b then after_patch lrsn page p else page)) s
     ∙ off_page id lrsn ps page (sym (ap (λ (b : Bool). b || list_any (λ (q : Patch). same_page q.page id) ps) s) ∙ f))
 
-all_stay : (at : Images) (lrsn : ℕ) (ps : List Patch) → AllByRecursion (λ (p : Patch). StayOn at (after_change lrsn ps at) p.page) ps → SlotsStay at (after_change lrsn ps at)
+pub all_stay : (at : Images) (lrsn : ℕ) (ps : List Patch) → AllByRecursion (λ (p : Patch). StayOn at (after_change lrsn ps at) p.page) ps → SlotsStay at (after_change lrsn ps at)
 all_stay at lrsn ps h table key place some few is =
     let id = heap_page table place.page in
     decide (list_any (λ (p : Patch). same_page p.page id) ps) (IsPlaceOf (after_change lrsn ps at) table key place)
@@ -148,24 +124,6 @@ all_stay at lrsn ps h table key place some few is =
     (ap (λ (page : List ℕ). owner page place.slot) (off_page id lrsn ps (at id) f) ∙ owner_of at table key place is))
 
 -- ---- one patch after the other
-
-all_push : (P : Patch → Type 0) (ps : List Patch) (p : Patch) → AllByRecursion P ps → P p → AllByRecursion P (ps ++ p ∷ [])
-all_push P [] p h it = (it, tt)
-all_push P (q ∷ ps) p h it = (h.0, all_push P ps p h.1 it)
-
-take_whole : (ps : List Patch) → take (length ps) ps ≡ ps
-take_whole [] = refl
-take_whole (p ∷ ps) = ap (λ (l : List Patch). p ∷ l) (take_whole ps)
-
-pub next_stays : (at behind : Images) (ps : List Patch) (k : ℕ) (p : Patch) (b : Bool) → k < length ps → p ≡ get_or ps k p → AllByRecursion (λ (q : Patch). StayOn at behind q.page) (take k ps) → IsTrue b ↔ StayOn at behind p.page → b ≡ true
-    → AllByRecursion (λ (q : Patch). StayOn at behind q.page) (take (k + 1) ps)
-next_stays at behind ps k p b lt is h test holds =
-    subst (λ (l : List Patch). AllByRecursion (λ (q : Patch). StayOn at behind q.page) l) (sym (take_more ps k p lt))
-    (all_push (λ (q : Patch). StayOn at behind q.page) (take k ps) (get_or ps k p) h (subst (λ (q : Patch). StayOn at behind q.page) is (test.0 holds)))
-
-pub last_stays : (at : Images) (lrsn : ℕ) (ps : List Patch) (k : ℕ) → k ≡ length ps → AllByRecursion (λ (q : Patch). StayOn at (after_change lrsn ps at) q.page) (take k ps) → SlotsStay at (after_change lrsn ps at)
-last_stays at lrsn ps k whole h =
-    all_stay at lrsn ps (subst (λ (l : List Patch). AllByRecursion (λ (q : Patch). StayOn at (after_change lrsn ps at) q.page) l) (ap (λ (n : ℕ). take n ps) whole ∙ take_whole ps) h)
 
 pub taken_here : (at : Images) (lrsn : ℕ) (ps : List Patch) (k : ℕ) (p : Patch) (b : Bool) → k < length ps → p ≡ get_or ps k p → AllByRecursion (λ (q : Patch). StayOn at (after_change lrsn ps at) q.page) (take k ps)
     → IsTrue b ↔ StayOn at (after_change lrsn ps at) p.page → b ≡ false → TakesSlots at lrsn ps p.page
@@ -178,16 +136,3 @@ taken_here at lrsn ps k p b lt is h test fails = record {
   id_is = ap (λ (q : Patch). q.page) is;
   taken = λ s. let holds : b ≡ true = test.1 (subst (λ (q : Patch). StayOn at (after_change lrsn ps at) q.page) (sym is) s) in absurd (cc (holds, fails));
 }
-
--- ---- a record of other patches
-
-pub patches_told : (earlier : List LogRecord) (at : Images) (lrsn : ℕ) (ps : List Patch) (found : Option PageId) → ((id : PageId) → at id ≡ images_of earlier id) → AreSlotsTold at lrsn ps found → IsBodyTold earlier lrsn (body.System ps) found
-patches_told earlier at lrsn ps None are h = subst (λ (i : Images). SlotsStay i (after_change lrsn ps i)) (fun_ext are) h
-patches_told earlier at lrsn ps (Some id) are h = subst (λ (i : Images). TakesSlots i lrsn ps id) (fun_ext are) h
-
-pub told_if : (E : Type 0) (es : List (PageId × List ℕ)) (tells : Bool) (b : Body) (lrsn : ℕ) (ps qs : List Patch) (r : Result (Option PageId) E) → b ≡ body.System ps → qs ≡ ps → IfOk r (λ found. AreSlotsTold (images_in es) lrsn qs found)
-    → IfOk r (λ found. (earlier : List LogRecord) → AreImages es earlier → IsTrue tells ↔ RowBefore earlier b → IsBodyTold earlier lrsn b found)
-told_if E es tells b lrsn ps qs (Ok found) is same h = λ earlier are t.
-    subst (λ (x : Body). IsBodyTold earlier lrsn x found) (sym is)
-    (patches_told earlier (images_in es) lrsn ps found are (subst (λ (l : List Patch). AreSlotsTold (images_in es) lrsn l found) same h))
-told_if E es tells b lrsn ps qs (Err e) is same h = tt

@@ -101,11 +101,6 @@ stood earlier c id page is name tells s =
     let there : StandsIn (version_of (heap_page c.table c.place.page) earlier) c = subst (λ (p : List ℕ). StandsIn p c) same s in
     record { slot = there.slot; there = there.there; before = tells }
 
-pub not_stood : (earlier : List LogRecord) (c : RowChange) (id : PageId) (page : List ℕ) → page ≡ version_of id earlier → id ≡ heap_page c.table c.place.page → (StandsIn page c → ⊥) → Stood earlier c → ⊥
-not_stood earlier c id page is name apart s =
-    let same : page ≡ version_of (heap_page c.table c.place.page) earlier = is ∙ ap (λ (i : PageId). version_of i earlier) name in
-    apart (subst (λ (p : List ℕ). StandsIn p c) (sym same) (record { slot = s.slot; there = s.there }))
-
 -- a test of the fact that is false
 pub fails : (b : Bool) (P : Type 0) → IsTrue b ↔ P → b ≡ false → P → ⊥
 fails b P h is p = let yes : b ≡ true = h.1 p in absurd cc

@@ -10,7 +10,7 @@ use Rattle.page_format.specs.declared.patch.Patch.{Patch}
 use Rattle.heap_space.specs.Slots.{content, slot_in}
 use Rattle.page_images.specs.Images.{Images, after_change}
 use Rattle.sound_disk.specs.Layouts.{count_in}
-use Rattle.sound_disk.specs.Rows_there.{key_in, IsPlaceOf, SlotsStay}
+use Rattle.sound_disk.specs.Rows_there.{key_in, IsPlaceOf}
 
 -- ---- a page
 
@@ -42,8 +42,3 @@ pub record TakesSlots (at : Images) (lrsn : ℕ) (patches : List Patch) (id : Pa
   pub before : AllByRecursion (λ (p : Patch). StayOn at (after_change lrsn patches at) p.page) first
   pub id_is : id ≡ it.page
   pub taken : StayOn at (after_change lrsn patches at) it.page → ⊥
-
--- the patches leave each slot to its key, or this is the page of the first that doesn't
-abbrev pub AreSlotsTold : Images → ℕ → List Patch → Option PageId → Type 0
-AreSlotsTold at lrsn patches None = SlotsStay at (after_change lrsn patches at)
-AreSlotsTold at lrsn patches (Some id) = TakesSlots at lrsn patches id

@@ -10,7 +10,7 @@ use Rattle.ds_model.specs.declared.log.Body.TheVariants as body
 use Rattle.heap_space.specs.Slots.{Content, content, slot_in}
 use Rattle.page_redo.specs.Rows.{change_fault}
 use Rattle.page_chain.specs.Chains.{images_of}
-use Rattle.sound_disk.specs.Rows_there.{Stood, BodyStood, BeforesAgree}
+use Rattle.sound_disk.specs.Rows_there.{Stood, BeforesAgree}
 use Rattle.stood_rows.specs.Owners.{TakesSlots}
 
 abbrev pub same_value : Option (List ℕ) → List ℕ → Bool
@@ -41,14 +41,6 @@ IsUnstood earlier lrsn body.Commit id = ⊥
 IsUnstood earlier lrsn body.Ended id = ⊥
 IsUnstood earlier lrsn (body.Checkpoint offset) id = ⊥
 IsUnstood earlier lrsn body.RestartEnd id = ⊥
-
-abbrev pub IsChangeTold : List LogRecord → RowChange → Option PageId → Type 0
-IsChangeTold earlier c None = Stood earlier c
-IsChangeTold earlier c (Some id) = IsUnstoodChange earlier c id
-
-abbrev pub IsBodyTold : List LogRecord → ℕ → Body → Option PageId → Type 0
-IsBodyTold earlier lrsn b None = BodyStood earlier lrsn b
-IsBodyTold earlier lrsn b (Some id) = IsUnstood earlier lrsn b id
 
 -- the page of the first record whose change didn't meet its row, or tells another than was left, or whose patches take a slot from its key
 pub record IsFirstUnstood (records : List LogRecord) (id : PageId) : Type 0 where

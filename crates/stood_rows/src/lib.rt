@@ -2,10 +2,12 @@
 //! their keys.
 #![tactic(auto)]
 
-mod befores;
 mod owners;
-mod pages;
+mod parts;
 mod patches;
+mod scan;
 mod slot;
+mod unstood;
 
-pub use befores::find_unstood;
+pub use scan::Standing;
+pub use unstood::{Unstood, sooner, unstood_laws};

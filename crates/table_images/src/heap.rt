@@ -1,16 +1,17 @@
 ghost use Rattle.std.specs.Prelude.{◌≡◌, ℕ, ◌<◌, ◌≤◌, ◌^◌, ◌↔◌, IsTrue};
 ghost use Rattle.ds_base.specs.Pages.{heap_set};
 ghost use Rattle.page_chain.specs.Chains.{images_of};
-ghost use Rattle.disk_versions.specs.Ends.{last_in_records, end_of};
+ghost use Rattle.redone_pages.specs.Lasts.{last_in_records};
+ghost use Rattle.disk_versions.specs.Ends.{end_of};
 ghost use Rattle.table_images.specs.Stands.{Stands, StandsAt};
 
 use crate::blank::is_blank;
-use disk_versions::{end_of, last_in_records};
+use disk_versions::end_of;
 use ds_base::{PageId, TableId};
-use log_record::LogRecord;
 use page_chain::chain_laws;
 use page_format::Page;
 use page_images::header_laws;
+use redone_pages::RedonePages;
 use table_pages::{count_in, is_heap_header, is_row_page};
 
 /// Whether the page is what it is to be in a heap with this last page and so many slots given in it.
@@ -31,15 +32,13 @@ pub fn heap_page_stands(page: &Page, id: PageId, last: u32, given: u16) -> bool
 
 /// How many pages of the table's heap, which has this last page, are to be looked at behind the records, from page 0 on: all
 /// others are zeros.
-///
-/// It goes over all records once.
-pub fn heap_end(table: TableId, records: &[LogRecord], last: u32) -> u64
-    ensures exact { result ≡ end_of last (last_in_records (heap_set table) 0 records.now) 0 }
+pub fn heap_end(table: TableId, records: &RedonePages, last: u32) -> u64
+    ensures exact { result ≡ end_of last (last_in_records (heap_set table) 0 records.now.records) 0 }
     ensures bound { result ≤ 2 ^ 32 }
     ensures past { last < result }
-    ensures rest { (given n : ℕ) → result ≤ n → StandsAt (images_of records.now) table last given n }
+    ensures rest { (given n : ℕ) → result ≤ n → StandsAt (images_of records.now.records) table last given n }
 {
     chain_laws();
     header_laws();
-    end_of(last, last_in_records(table.heap_page(0).set, records), 0)
+    end_of(last, records.last(table.heap_set()), 0)
 }

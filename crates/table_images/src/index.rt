@@ -1,17 +1,18 @@
 ghost use Rattle.std.specs.Prelude.{◌≡◌, ℕ, ◌<◌, ◌≤◌, ◌^◌, Bool, ◌↔◌, IsTrue};
 ghost use Rattle.ds_base.specs.Pages.{index_set};
 ghost use Rattle.page_chain.specs.Chains.{images_of};
-ghost use Rattle.disk_versions.specs.Ends.{last_in_records, end_of};
+ghost use Rattle.redone_pages.specs.Lasts.{last_in_records};
+ghost use Rattle.disk_versions.specs.Ends.{end_of};
 ghost use Rattle.table_images.specs.Nodes.{NodeStands, NodeStandsAt, last_node};
 
 use crate::blank::is_blank;
-use disk_versions::{end_of, last_in_records};
+use disk_versions::end_of;
 use ds_base::{PageId, TableId};
 use index_leaf::count;
-use log_record::LogRecord;
 use page_chain::chain_laws;
 use page_format::Page;
 use page_images::header_laws;
+use redone_pages::RedonePages;
 use table_pages::{is_index_header, is_node_page};
 
 /// Whether the page is what it is to be by itself in an index that is formatted or isn't, and has this next free page. Where its
@@ -43,19 +44,13 @@ fn last_node(next: u32) -> u32
 
 /// How many pages of the table's index, which has this next free page, are to be looked at behind the records, from page 0 on:
 /// at least two, and all others are zeros.
-///
-/// It goes over all records once.
-pub fn index_end(table: TableId, records: &[LogRecord], next: u32) -> u64
-    ensures exact { result ≡ end_of (last_node next) (last_in_records (index_set table) 0 records.now) 0 }
+pub fn index_end(table: TableId, records: &RedonePages, next: u32) -> u64
+    ensures exact { result ≡ end_of (last_node next) (last_in_records (index_set table) 0 records.now.records) 0 }
     ensures bound { result ≤ 2 ^ 32 }
     ensures past { last_node next < result }
-    ensures rest { (formatted : Bool) (n : ℕ) → result ≤ n → NodeStandsAt (images_of records.now) table formatted next n }
+    ensures rest { (formatted : Bool) (n : ℕ) → result ≤ n → NodeStandsAt (images_of records.now.records) table formatted next n }
 {
     chain_laws();
     header_laws();
-    end_of(
-        last_node(next),
-        last_in_records(table.index_page(0).set, records),
-        0,
-    )
+    end_of(last_node(next), records.last(table.index_set()), 0)
 }

@@ -7,4 +7,4 @@ use Rattle.index_places.proofs.Heap_pages.{HeapPasses}
 use Rattle.index_places.proofs.heap.find_wrong_heap_page.Given as goal
 
 abbrev pub invariant-loop-number : goal.invariant-loop-number
-invariant-loop-number l = (n : ℕ) → n < l.number → Of (HeapPasses l.last l.given (rows_in l.rows l.table)) (heap_page l.table) (images_of l.records) n
+invariant-loop-number l = (n : ℕ) → n < l.number → Of (HeapPasses l.last l.given (rows_in l.rows l.table)) (heap_page l.table) (images_of l.records.records) n

@@ -1,5 +1,5 @@
 use Rattle.std.proofs.Common.{◌≡◌, false, is_some}
-use Rattle.kept_pages.proofs.Kept.{fit_of, kept_told}
+use Rattle.kept_pages.proofs.Deciding.{fit_of, kept_told}
 use Rattle.kept_pages.proofs.unkept.find_unkept.Goals as goal
 
 pub returns : goal.returns

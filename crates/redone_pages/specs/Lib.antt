@@ -1,0 +1,4 @@
+pub mod Ranges
+pub mod Lasts
+pub mod Held
+pub mod Redone

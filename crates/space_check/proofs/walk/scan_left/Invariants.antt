@@ -1,0 +1,16 @@
+use Rattle.std.proofs.Common.{◌≡◌, ◌≤◌}
+use Rattle.ds_disk.specs.Contents.{Becomes, Same}
+use Rattle.redone_pages.specs.declared.range.TableRange.{TableRange}
+use Rattle.space_check.specs.Scans.{IsScan}
+use Rattle.space_check.proofs.Scanning.{HasScanned}
+use Rattle.space_check.proofs.walk.scan_left.Given as goal
+
+-- the records so far were scanned
+abbrev pub invariant-loop : goal.invariant-loop
+invariant-loop g l = record {
+  scan : (range : TableRange) → IsScan range l.fn.scan → IsScan range l.scan;
+  scanned : HasScanned (g.D.Disk.contents l.fn.disk) l.fn.heads.heads l.heads.heads l.fn.scan l.scan;
+  block : l.heads.block ≡ l.fn.heads.block;
+  same : Becomes (g.D.Disk.contents l.fn.disk) (g.D.Disk.contents l.disk) Same;
+  later : g.D.Disk.faults l.fn.disk ≤ g.D.Disk.faults l.disk;
+}
