@@ -219,32 +219,33 @@ module _ (facts : Facts) (w : World) (g : Holdings) (content : ℕ → ℕ → L
   abbrev Goes : Type 0
   Goes = CastLeads w v g content forced h k
 
+  -- the member as it was before the event
+  back : CastLeads w v g content forced now k → Goes
+  back c = record { left = c.left; goes = c.goes; facility = c.facility; drive = c.drive; cast = c.cast; own = c.own }
+
   never : {A : Type 0} → false ≡ true → A
   never e = absurd (cc e)
 
   wrote : WritesCast (setting_of h (holder_in g.facility h.cast) place) s → ready ≡ h → Runs there (begun ready place) intent.CastoutWrite s p place a told v k → Goes
   wrote lawful e r = by (is_holder h (holder_in g.facility h.cast)) refl
     where
-      hand : Cast
-      hand = lawful.cast
-
       by : (z : Bool) → is_holder h (holder_in g.facility h.cast) ≡ z → Goes
       by true y =
           let q = ran there v h ready k intent.CastoutWrite s (sent.WritePage lawful.cast.page) p place a told e (lawful.is ∙ cond-true (is_holder h (holder_in g.facility h.cast)) (sent.WritePage lawful.cast.page) (done_sent lawful.cast.page) y) r in
-          writes facts w g content forced now d v b shows has k lawful.cast a told lawful.taken y works q.1 q.0
+          back (writes facts w g content forced now d v b shows has k lawful.cast a told lawful.taken y works q.1 q.0)
       by false y =
           let q = ran there v h ready k intent.CastoutWrite s (sent.Command (command.CastoutDone lawful.cast.page)) p place a told e (lawful.is ∙ cond-false (is_holder h (holder_in g.facility h.cast)) (sent.WritePage lawful.cast.page) (done_sent lawful.cast.page) y) r in
-          over facts w g content forced now d v b shows has k lawful.cast intent.CastoutWrite p place a told lawful.taken (inr (not_held facts w g content forced now d v b shows has lawful.cast lawful.taken y)) q.1 q.0 q.0.settles.1
+          back (over facts w g content forced now d v b shows has k lawful.cast intent.CastoutWrite p place a told lawful.taken (inr (not_held facts w g content forced now d v b shows has lawful.cast lawful.taken y)) q.1 q.0 q.0.settles.1)
 
   ended : EndsCast (setting_of h (holder_in g.facility h.cast) place) s → ready ≡ h → Runs there (begun ready place) intent.CastoutDone s p place a told v k → Goes
   ended lawful e r =
       let q = ran there v h ready k intent.CastoutDone s (sent.Command (command.CastoutDone lawful.cast.page)) p place a told e lawful.is r in
-      over facts w g content forced now d v b shows has k lawful.cast intent.CastoutDone p place a told lawful.taken (may_end facts w g content forced now d v b shows has lawful.cast lawful.taken lawful.ends) q.1 q.0 q.0.settles.1
+      back (over facts w g content forced now d v b shows has k lawful.cast intent.CastoutDone p place a told lawful.taken (may_end facts w g content forced now d v b shows has lawful.cast lawful.taken lawful.ends) q.1 q.0 q.0.settles.1)
 
   by_intent : (i : Intent) → casts_out i ≡ true → Lawful h.marks h.pages (setting_of h (holder_in g.facility h.cast) place) i s → Reserves i h ready → Runs there (begun ready place) i s p place a told v k → Goes
   by_intent (intent.CastoutRead page) so lawful e r =
       let q = ran there v h ready k (intent.CastoutRead page) s (sent.Command (command.CastoutRead page)) p place a told e lawful r in
-      reads facts w g content forced now d v b shows has k page p place a told q.1 q.0
+      back (reads facts w g content forced now d v b shows has k page p place a told q.1 q.0)
   by_intent intent.CastoutWrite so lawful e r = wrote lawful e r
   by_intent intent.CastoutDone so lawful e r = ended lawful e r
   by_intent intent.Step so lawful e r = never so
