@@ -1,7 +1,7 @@
 -- What the parts of a restart's events leave of its page lock, and of the retained pages that it knows.
-use Rattle.std.proofs.Common.{◌≡◌, ℕ, refl, sym, ◌∙◌, ap, subst, Bool, true, false, inl, inr, List, [], ◌∷◌, Option, Some, None, Result, Ok, Err}
+use Rattle.std.proofs.Common.{◌≡◌, ℕ, suc, refl, sym, ◌∙◌, ap, subst, arith, Bool, true, false, inl, inr, List, [], ◌∷◌, Option, Some, None, Result, Ok, Err}
 use Rattle.std.specs.Prelude.{◌==◌, ◌&&◌, if◌then◌else◌, is_none, is_some, length, slice_get}
-use Rattle.std.proofs.lemmas.Bool.{and_from, and_parts, both_ways, cases_Bool}
+use Rattle.std.proofs.lemmas.Bool.{and_from, and_parts, both_ways, cases_Bool, eqb-true}
 use Rattle.std.proofs.lemmas.Option.{none-some, same_Some}
 use Rattle.ds_base.specs.declared.names.PageId.{PageId}
 use Rattle.page_format.specs.Fields.{lrsn_of}
@@ -281,7 +281,7 @@ reaches s t r = subst (λ (z : RestartState). Near s z) (sym r.1) (all_near r.0 
 -- ---- what it knows of the page in hand goes on, and that all retained pages are recovered
 pub no_keys : (keys : List TurnKey) → (length keys == 0) ≡ true → keys ≡ []
 no_keys [] e = refl
-no_keys (x ∷ keys) e = absurd (both_ways false refl e)
+no_keys (x ∷ keys) e = absurd (let z : suc (length keys) ≡ 0 = eqb-true (suc (length keys)) 0 e in omega (arith, z))
 
 pub record KnowsOn (s t : RestartState) : Type 0 where
   pub hand : HandIs s → HandIs t
@@ -311,5 +311,5 @@ keyed_unrecovered s has some = elim (cases_Bool (is_recovered s)) [
 ]
   where
     none : s.pages ≡ [] → (o : Option TurnKey) → s.hand.key ≡ o → is_some o ≡ true → ⊥
-    none e None is yes = both_ways false refl yes
-    none e (Some key) is yes = both_ways false refl (ap (λ (z : List TurnKey). is_among z key.page) (sym e) ∙ has key is)
+    none e None is there = both_ways false refl there
+    none e (Some key) is there = both_ways false refl (ap (λ (z : List TurnKey). is_among z key.page) (sym e) ∙ has key is)

@@ -23,15 +23,15 @@ undrawn_begins g m s fresh level = record {
 }
 
 pub undrawn_stays : UndrawnStays
-undrawn_stays g left forced force m s same ne d = record { keyed = d.keyed; level = λ no. same.stable s.member ne ∙ d.level no ∙ sym (same.written s.member ne) }
+undrawn_stays g left forced force m s same ne d = record { keyed = d.keyed; level = λ open_still. same.stable s.member ne ∙ d.level open_still ∙ sym (same.written s.member ne) }
 
 pub undrawn_casts : UndrawnCasts
-undrawn_casts g left s own d = record { keyed = d.keyed; level = λ no. own.stable ∙ d.level no ∙ sym own.written }
+undrawn_casts g left s own d = record { keyed = d.keyed; level = λ open_still. own.stable ∙ d.level open_still ∙ sym own.written }
 
 -- where they aren't recovered behind it, they weren't before
 was_not : (s t : RestartState) → KnowsOn s t → HandIs s → Keyed s → is_recovered t ≡ false → is_recovered s ≡ false
-was_not s t on is has no = elim (cases_Bool (is_recovered s)) [
-  | inl all ↦ absurd (both_ways (is_recovered t) no (on.recovered is has all))
+was_not s t on is has left = elim (cases_Bool (is_recovered s)) [
+  | inl all ↦ absurd (both_ways (is_recovered t) left (on.recovered is has all))
   | inr e ↦ e
 ]
 
@@ -40,7 +40,7 @@ undrawn_goes named spare lawful w u v g content forced h k s a listing d happens
     let on : KnowsOn h.marks k.marks = (stepped named spare lawful (as_restarting u) (as_restarting v) h k s a happens).knows in
     record {
       keyed = on.keyed listing.hand d.keyed;
-      level = λ no. (let before = was_not h.marks k.marks on listing.hand d.keyed no in subst (λ z. leads.left.stable z ≡ leads.left.written z) (sym leads.same) (leads.level before (d.level before)));
+      level = λ open_still. (let before = was_not h.marks k.marks on listing.hand d.keyed open_still in subst (λ z. leads.left.stable z ≡ leads.left.written z) (sym leads.same) (leads.level before (d.level before)));
     }
 
 pub undrawn_tells : ((p : PageId) → page_at (page_number p) ≡ p) → CommandsSpare → SendsLawfully → UndrawnTells
