@@ -1,14 +1,16 @@
 -- Events one behind the other.
 use Rattle.std.proofs.Common.{◌≡◌, ℕ, refl, sym, subst, Bool, false, inl, inr, List, [], ◌∷◌, ◌++◌}
+use Rattle.std.specs.Prelude.{◌⊎◌}
 use Rattle.member_resources.specs.Held.{Held}
 use Rattle.member_resources.specs.Events as event
 use Rattle.lock_protocol.specs.Machine.{World as LockWorld, start as lock_start}
 use Rattle.page_protocol.specs.Page.{put}
 use Rattle.page_protocol.specs.Moves.{World, Move, Run, start}
 use Rattle.page_world.specs.Numbers.{set_of}
-use Rattle.page_groups.specs.Groups.{made}
+use Rattle.page_world.specs.Holdings.{Holdings}
+use Rattle.page_groups.specs.Groups.{among, made}
 use Rattle.page_owners.specs.Groups.{BothLead, BothStand, EventsGo, FailuresGo, GroupsStart, ToldGo}
-use Rattle.page_owners.specs.Runs.{AllGo, Goes, IsFresh, RunsStand, StandsBehind, Whole}
+use Rattle.page_owners.specs.Runs.{Acts, AllGo, Fails, Goes, IsFresh, IsTold, RunsStand, StandsBehind, Whole}
 
 pub record Facts : Type 0 where
   pub start : GroupsStart

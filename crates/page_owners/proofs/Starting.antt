@@ -21,7 +21,7 @@ use Rattle.lock_world.specs.Tied.{Tied}
 use Rattle.lock_world.specs.Views.{claim_in, claims_from, entry_in, is_slot}
 use Rattle.marks_law.specs.Slots.{SlotsBegin}
 use Rattle.member_resources.specs.Held.{Held, IsNew}
-use Rattle.page_groups.specs.Groups.{GroupsStart as PagesStart, among, made}
+use Rattle.page_groups.specs.Groups.{GroupsStart as PagesStart, GroupStands, among, made}
 use Rattle.page_protocol.specs.Moves.{start}
 use Rattle.page_owners.specs.Owners.{BeginInX, LocksStand}
 use Rattle.page_owners.specs.Groups.{GroupsBegin, GroupsStart}
