@@ -12,6 +12,7 @@ use Rattle.facility.specs.declared.command.Reply.{Reply}
 use Rattle.facility.specs.CacheCommands.{UnregistersFrame}
 use Rattle.facility.specs.States.{Held as Facility}
 use Rattle.member_resources.specs.Events.{Drive, World as Outside}
+use Rattle.restart_marks.specs.Moves.{is_recovered}
 use Rattle.restart_resources.specs.Events.{Ends}
 use Rattle.restart_resources.specs.Held.{Held}
 use Rattle.page_protocol.specs.Page.{put}
@@ -194,6 +195,10 @@ own_restarts g left forced h same own r =
 abbrev pub Level : Holdings → ℕ → Held → Type 0
 Level g m k = k.marks.hand.changed ≡ true → is_some k.marks.hand.key ≡ true → g.stable m ≡ g.written m
 
+-- and all records that the member has drawn are on disk, as long as a retained page isn't recovered
+abbrev pub Stays : Holdings → Holdings → Held → Type 0
+Stays g left h = is_recovered h.marks ≡ false → g.stable h.marks.member ≡ g.written h.marks.member → left.stable h.marks.member ≡ left.written h.marks.member
+
 pub record Led (w : World) (v : Outside) (g : Holdings) (content : ℕ → ℕ → List ℕ) (forced : ℕ → ℕ) (h k : Held) (owned : ℕ → Option ℕ) : Type 0 where
   pub leads : Leads w v g content forced h k
   pub level : Level leads.left h.marks.member k
@@ -201,8 +206,8 @@ pub record Led (w : World) (v : Outside) (g : Holdings) (content : ℕ → ℕ �
 
 pub made : AlwaysGood → (w : World) (u v : Outside) (g left : Holdings) (content versions : ℕ → ℕ → List ℕ) (forced force : ℕ → ℕ) (h k : Held)
     → Beside w u g content forced h → Goes w versions force left h k → left.facility ≡ v.facility → Shows v.drive left.disk → IsSound left.facility.directory → k.marks.own.is_read ≡ true
-    → SameOthers g left forced force h.marks.member → ((n i : ℕ) → i ≤ (w.pages n).last → versions n i ≡ content n i) → left.casts ≡ g.casts → Level left h.marks.member k → Led w v g content forced h k left.owner
-made law w u v g left content versions forced force h k b goes facility drive sound read others kept casts level = record {
+    → SameOthers g left forced force h.marks.member → ((n i : ℕ) → i ≤ (w.pages n).last → versions n i ≡ content n i) → left.casts ≡ g.casts → Stays g left h → Level left h.marks.member k → Led w v g content forced h k left.owner
+made law w u v g left content versions forced force h k b goes facility drive sound read others kept casts stays level = record {
   leads = record {
     moves = goes.moves;
     world = goes.moved.world;
@@ -220,6 +225,7 @@ made law w u v g left content versions forced force h k b goes facility drive so
     others = others;
     kept = kept;
     casts = casts;
+    level = stays;
   };
   level = level;
   owner = refl;
@@ -230,13 +236,13 @@ pub stay_leads : Facts → (w : World) (u v : Outside) (g : Holdings) (content :
     → Beside w u g content forced h → KeepsPages g.facility v.facility → Shows v.drive g.disk → SameHand h k → k.marks.own.is_read ≡ true → Level g h.marks.member k → Led w v g content forced h k g.owner
 stay_leads facts w u v g content forced h k b keeps drive s read level =
     made facts.good w u v g (with_facility g v.facility) content content forced forced h k b (facts.stay w g content forced h k v.facility b.begins keeps s)
-    refl drive (subst IsSound (sym keeps.directory) b.begins.sound) read (others_facility g v.facility forced h.marks.member (standings_of g.facility v.facility keeps)) (λ n i l. refl) refl level
+    refl drive (subst IsSound (sym keeps.directory) b.begins.sound) read (others_facility g v.facility forced h.marks.member (standings_of g.facility v.facility keeps)) (λ n i l. refl) refl (λ no e. e) level
 
 -- ---- one that changes it
 pub behind_leads : Facts → (w : World) (u v : Outside) (g : Holdings) (content : ℕ → ℕ → List ℕ) (forced : ℕ → ℕ) (h k : Held)
     → Beside w u g content forced h → Goes w content forced (behind g v.facility h.marks.member k) h k → KeepsStandings g.facility v.facility → IsSound v.facility.directory → Shows v.drive g.disk → k.marks.own.is_read ≡ true → Level g h.marks.member k → Led w v g content forced h k g.owner
 behind_leads facts w u v g content forced h k b goes keeps sound drive read level =
-    made facts.good w u v g (behind g v.facility h.marks.member k) content content forced forced h k b goes refl drive sound read (others_behind g v.facility forced h.marks.member k keeps) (λ n i l. refl) refl level
+    made facts.good w u v g (behind g v.facility h.marks.member k) content content forced forced h k b goes refl drive sound read (others_behind g v.facility forced h.marks.member k keeps) (λ n i l. refl) refl (λ no e. e) level
 
 -- ---- the registration of index 0 is dropped, while no page is in hand
 away : (g : Holdings) (forced : ℕ → ℕ) (h : Held) → IsRestarting g forced h → h.marks.hand.page ≡ None → (j : ℕ) → g.copies h.marks.member j ≡ no_copy
@@ -314,7 +320,7 @@ pub unregister_leads : Facts → (w : World) (u v : Outside) (g : Holdings) (con
 unregister_leads facts w u v g content forced h k answer b none r drive is level = subst (λ (z : Held). Led w v g content forced h z g.owner) (sym is) (
     made facts.good w u v g (with_facility g v.facility) content content forced forced h h b (unregister_goes facts.places facts.unregisters w g content forced h answer v.facility b.begins none r)
     refl drive (subst (λ (z : Facility). IsSound z.directory) (sym r.1) (facts.sound.unregister g.facility.directory h.marks.member 0 b.begins.sound)) b.read
-    (others_facility g v.facility forced h.marks.member (directory_standings g.facility v.facility (after_unregister g.facility.directory h.marks.member 0) r.1)) (λ n i l. refl) refl level)
+    (others_facility g v.facility forced h.marks.member (directory_standings g.facility v.facility (after_unregister g.facility.directory h.marks.member 0) r.1)) (λ n i l. refl) refl (λ no e. e) level)
 
 -- ---- page locks
 pub lock_leads : Facts → (w : World) (u v : Outside) (g : Holdings) (content : ℕ → ℕ → List ℕ) (forced : ℕ → ℕ) (h k : Held) (p : PageId)
@@ -322,13 +328,13 @@ pub lock_leads : Facts → (w : World) (u v : Outside) (g : Holdings) (content :
 lock_leads facts w u v g content forced h k p b free keeps drive s read level =
     made facts.good w u v g (owned_by g v.facility (page_number p) (Some h.marks.member)) content content forced forced h k b (facts.lock w g content forced h k p v.facility b.begins free keeps s)
     refl drive (subst IsSound (sym keeps.directory) b.begins.sound) read
-    (others_owned g v.facility forced h.marks.member (page_number p) (Some h.marks.member) (standings_of g.facility v.facility keeps) (λ j ne e. none-some j (sym free ∙ e)) (λ j ne e. ne (sym (same_Some h.marks.member j e)))) (λ n i l. refl) refl level
+    (others_owned g v.facility forced h.marks.member (page_number p) (Some h.marks.member) (standings_of g.facility v.facility keeps) (λ j ne e. none-some j (sym free ∙ e)) (λ j ne e. ne (sym (same_Some h.marks.member j e)))) (λ n i l. refl) refl (λ no e. e) level
 
 pub give_up_leads : Facts → (w : World) (u v : Outside) (g : Holdings) (content : ℕ → ℕ → List ℕ) (forced : ℕ → ℕ) (h k : Held) (p : PageId)
     → Beside w u g content forced h → Goes w content forced (owned_by g v.facility (page_number p) None) h k → g.owner (page_number p) ≡ Some h.marks.member → KeepsPages g.facility v.facility → Shows v.drive g.disk → k.marks.own.is_read ≡ true → Level g h.marks.member k → Led w v g content forced h k (put g.owner (page_number p) None)
 give_up_leads facts w u v g content forced h k p b goes own keeps drive read level =
     made facts.good w u v g (owned_by g v.facility (page_number p) None) content content forced forced h k b goes refl drive (subst IsSound (sym keeps.directory) b.begins.sound) read
-    (others_owned g v.facility forced h.marks.member (page_number p) None (standings_of g.facility v.facility keeps) (λ j ne e. ne (sym (same_Some h.marks.member j (sym own ∙ e)))) (λ j ne e. none-some j e)) (λ n i l. refl) refl level
+    (others_owned g v.facility forced h.marks.member (page_number p) None (standings_of g.facility v.facility keeps) (λ j ne e. ne (sym (same_Some h.marks.member j (sym own ∙ e)))) (λ j ne e. none-some j e)) (λ n i l. refl) refl (λ no e. e) level
 
 -- ---- and then the policy's local moves
 others_on : (g mid left : Holdings) (forced between force : ℕ → ℕ) (m p : ℕ) → p ≡ m → SameOthers g mid forced between m → SameOthers mid left between force p → SameOthers g left forced force m
@@ -382,6 +388,7 @@ ended facts w v g content forced h mid k a park ends read =
         others = others_on g a.left left forced a.force a.force h.marks.member m a.same a.others (others_behind a.left f a.force m k (standings_same f));
         kept = a.kept;
         casts = a.casts;
+        level = a.level;
       };
       owner = refl;
     }

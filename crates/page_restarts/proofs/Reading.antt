@@ -272,6 +272,7 @@ module _ (facts : Facts) (w : World) (u v : Outside) (g : Holdings) (content : �
     others = others_facility g v.facility forced h.marks.member standings;
     owner = refl;
     casts = refl;
+    level = b.level;
   }
 
   stays : GoesOn h k → KeepsPages g.facility v.facility → Shows v.drive g.disk → ReadingLeads w v g content forced h k
@@ -370,6 +371,7 @@ module _ (facts : Facts) (w : World) (u v : Outside) (g : Holdings) (content : �
         };
         owner = refl;
         casts = refl;
+        level = b.level;
       }
     where
       off : (j : ℕ) → j ≢ m → j ≢ mid.marks.member

@@ -67,6 +67,7 @@ read_on w v g content forced h k s a e o = record {
   owns = subst (λ z. Owns g.owner z h.marks.member s a) (sym e.owner) o;
   kept = λ n i l. refl;
   casts = e.casts;
+  level = λ _ _. sym e.level;
 }
 
 -- ---- at either stage

@@ -5,6 +5,7 @@ use Rattle.member_intents.specs.declared.outcome.Answered.TheVariants as answere
 use Rattle.member_resources.specs.Events.{World as Outside}
 use Rattle.restart_marks.specs.declared.intent.RestartIntent.TheVariants as intent
 use Rattle.restart_marks.specs.declared.intent.RestartSent.{RestartSent}
+use Rattle.restart_marks.specs.Moves.{is_recovered}
 use Rattle.restart_marks.specs.State.{RestartState}
 use Rattle.restart_records.specs.Trans.{page_undone}
 use Rattle.restart_resources.specs.Events.{Happens}
@@ -65,7 +66,8 @@ pub record StageTells (w : World) (u v : Outside) (g : Holdings) (content : ℕ 
 abbrev pub HasLeft : OwnClaims → RestartState → Type 0
 HasLeft own s = ((o c : ℕ) → own o c ≡ None) ⊎ ((s.claim ≡ None) × ((id : ℕ) → page_undone s.trans id ≡ None))
 
--- with the page locks that it had and has not given up, and the one that it was granted; and it casts nothing out
+-- with the page locks that it had and has not given up, and the one that it was granted; it casts nothing out, and draws no number before all retained pages are
+-- recovered
 pub record StageLeads (w : World) (v : Outside) (g : Holdings) (content : ℕ → ℕ → List ℕ) (forced : ℕ → ℕ) (h k : Held) (s : RestartSent) (a : Answered) : Type 0 where
   pub moves : List Move
   pub world : World
@@ -79,6 +81,7 @@ pub record StageLeads (w : World) (v : Outside) (g : Holdings) (content : ℕ �
   pub owns : Owns g.owner left.owner h.marks.member s a
   pub kept : (n i : ℕ) → i ≤ (w.pages n).last → versions n i ≡ content n i
   pub casts : left.casts ≡ g.casts
+  pub level : is_recovered h.marks ≡ false → g.stable h.marks.member ≡ g.written h.marks.member → left.stable h.marks.member ≡ left.written h.marks.member
 
 pub record StageGoes (w : World) (l : LockWorld) (u v : Outside) (g : Holdings) (content : ℕ → ℕ → List ℕ) (forced : ℕ → ℕ) (left : Claims) (own : OwnClaims) (h k : Held) (s : RestartSent) (a : Answered) : Type 0 where
   pub pages : StageLeads w v g content forced h k s a

@@ -10,6 +10,7 @@ ghost use Rattle.restart_owners.specs.Events.{BothSupply, EventsGo};
 ghost use Rattle.restart_owners.specs.Listing.{ListingBegins, ListingGoes, ListingStays, RestartsRetain};
 ghost use Rattle.restart_owners.specs.Owners.{OthersOwn, OwnersFail, RestartsBegin};
 ghost use Rattle.restart_owners.specs.Stages.{StageBegins, StageCasts, StageEnds, StageStays, StagesGo};
+ghost use Rattle.restart_owners.specs.Undrawn.{UndrawnBegins, UndrawnCasts, UndrawnGoes, UndrawnStays, UndrawnTells};
 
 use lock_protocol::{claims_give, keeps_sound, moves_leave_others};
 use lock_restarts::{restarts_go, sends_lawfully};
@@ -109,4 +110,18 @@ pub fn stages_go()
     restarts_list();
     events_go();
     ends_go();
+}
+
+/// A restart draws no number before all retained pages are recovered, from its begin on, through all its events, those of others, and castouts of its own
+/// member. So where it puts a changed page aside, all records that its member has drawn are on disk.
+pub fn restarts_stay_undrawn()
+    ensures begin { UndrawnBegins }
+    ensures event { UndrawnGoes }
+    ensures other { UndrawnStays }
+    ensures casts { UndrawnCasts }
+    ensures quiet { UndrawnTells }
+{
+    pages_have_numbers();
+    sends_lawfully();
+    commands_retain();
 }
