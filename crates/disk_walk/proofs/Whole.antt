@@ -50,7 +50,7 @@ LogsOn F ends start k s n c = OfWholeLogs ends (λ logs. F s (drop k logs) ≡ F
 pub logs_start : {S X : Type 0} (F : S → List Log → X) (a : Option Contents) (n : ℕ) (ends : List ℕ) (start : S) → Reads a a n n (LogsOn F ends start 0 start) (Ok 0)
 logs_start F a n ends start = reads_none a n (LogsOn F ends start 0 start) 0 (λ c logs whole is. refl)
 
-log_here : PartsAreWhole → AreRead → (ends : List ℕ) (logs : List Log) (c : Contents) (k member end : ℕ) (P : List LogRecord → Type 0) → AreWholeLogs 1 c.logs logs → ends ≡ map (λ (l : Log). l.length) logs → length ends ≡ 32 → k < 32 → member ≡ k + 1 → end ≡ slice_index ends k
+pub log_here : PartsAreWhole → AreRead → (ends : List ℕ) (logs : List Log) (c : Contents) (k member end : ℕ) (P : List LogRecord → Type 0) → AreWholeLogs 1 c.logs logs → ends ≡ map (λ (l : Log). l.length) logs → length ends ≡ 32 → k < 32 → member ≡ k + 1 → end ≡ slice_index ends k
     → OfRecords member end P c → (log : Log) × (drop k logs ≡ log ∷ drop (k + 1) logs) × (log.member ≡ member) × P log.records
 log_here parts read ends logs c k member end P whole is long lt its end_is holds =
     let count : length logs ≡ 32 = sym (counted (λ (l : Log). l.length) logs) ∙ ap length (sym is) ∙ long in

@@ -7,5 +7,5 @@ use Rattle.kept_pages.proofs.kept.judge_log.Given as goal
 -- the needs of the records so far were looked at
 abbrev pub invariant-loop : goal.invariant-loop
 invariant-loop g l =
-    Reads (g.D.Disk.contents l.fn.disk) (g.D.Disk.contents l.disk) (g.D.Disk.faults l.fn.disk) (g.D.Disk.faults l.disk) (JudgesOn l.member l.end l.again l.first l.head l.found) (Ok 0)
+    Reads (g.D.Disk.contents l.fn.disk) (g.D.Disk.contents l.disk) (g.D.Disk.faults l.fn.disk) (g.D.Disk.faults l.disk) (JudgesOn l.member l.end l.again l.fn.first l.head l.found) (Ok 0)
     × IsSound l.head
