@@ -109,12 +109,12 @@ nothing placed stood t pages unwhole unstood turns = λ at records renews behind
 
 -- ---- tables that are whole
 
-whole_on : (at : Images) (records : List LogRecord) (n : ℕ) (range : TableRange) (found : Option PageId) → range.first ≡ n + 1 → 1 ≤ range.first → range.last ≤ 64 → AreWholeUpTo at records n None → IsRangeTold at records range found → AreWholeUpTo at records range.last found
-whole_on at records n range None first some few before told = λ k from to.
+whole_on : (at : Images) (records : List LogRecord) (n : ℕ) (range : TableRange) (found : Option PageId) → range.first ≡ n + 1 → AreWholeUpTo at records n None → IsRangeTold at records range found → AreWholeUpTo at records range.last found
+whole_on at records n range None first before told = λ k from to.
     decide (nat_le k n) (IsWholeTable at records k)
     (λ e. before k from (le_of k n e))
     (λ e. let up = above k n e in told k (omega (arith, up, first), to))
-whole_on at records n range (Some id) first some few before told = record {
+whole_on at records n range (Some id) first before told = record {
   table = told.table;
   is_table = told.is_table;
   unwhole = told.unwhole;
@@ -126,7 +126,7 @@ whole_on at records n range (Some id) first some few before told = record {
 }
 
 pub whole_more : (at : Images) (records : List LogRecord) (n : ℕ) (range : TableRange) (old found : Option PageId) → range.first ≡ n + 1 → old ≡ None → IsRangeTold at records range found → AreWholeUpTo at records n old → AreWholeUpTo at records range.last found
-whole_more at records n range old found first none told before = whole_on at records n range found first (omega (arith, first)) (omega arith) (subst (λ (o : Option PageId). AreWholeUpTo at records n o) none before) told
+whole_more at records n range old found first none told before = whole_on at records n range found first (subst (λ (o : Option PageId). AreWholeUpTo at records n o) none before) told
 
 pub unwhole_stays : (at : Images) (records : List LogRecord) (n m : ℕ) (old : Option PageId) (id : PageId) → old ≡ Some id → AreWholeUpTo at records n old → AreWholeUpTo at records m (Some id)
 unwhole_stays at records n m old id is before = subst (λ (o : Option PageId). AreWholeUpTo at records n o) is before

@@ -1,6 +1,6 @@
 -- All records, as they go by in the order of their numbers.
-use Rattle.std.proofs.Common.{◌≡◌, ℕ, ◌+◌, ◌≤◌, Bool, true, false, cond, List, [], ◌∷◌, ◌++◌, length, take, Option, refl, sym, ap, subst, ◌∙◌, append_assoc, arith}
-use Rattle.std.specs.Prelude.{map}
+use Rattle.std.proofs.Common.{◌≡◌, ℕ, ◌+◌, ◌≤◌, Bool, true, false, cond, List, [], ◌∷◌, ◌++◌, length, take, Option, Result, Ok, Err, refl, sym, ap, subst, ◌∙◌, append_assoc, arith}
+use Rattle.std.specs.Prelude.{map, OnOk}
 use Rattle.std.specs.List.{AllByRecursion}
 use Rattle.std.proofs.lemmas.List.{append-nil, take_at}
 use Rattle.std.proofs.lemmas.List.Elements.{filter-append}
@@ -17,10 +17,13 @@ use Rattle.page_images.specs.Images.{Images}
 use Rattle.sound_disk.specs.Laws.{records_of}
 use Rattle.sound_disk.specs.Whole_logs.{IsWholeLog, AreWholeLogs}
 use Rattle.sound_disk.specs.Versions.{merged}
+use Rattle.ds_disk.specs.declared.disk.DiskError.{DiskError}
+use Rattle.disk_walk.specs.Reading.{Reads}
+use Rattle.disk_versions.specs.Reading as versions
 use Rattle.disk_walk.specs.declared.walk.Next.{Next}
 use Rattle.disk_walk.specs.declared.walk.Next.TheVariants as next
 use Rattle.disk_walk.specs.Walks.{IsUpTo, AreUpTo, Begins, Stand, AreRead, IsNextOfAll}
-use Rattle.disk_walk.proofs.Reading.{told_before, told_all, told_by_both}
+use Rattle.disk_walk.proofs.Reading.{told_before, told_all, told_by, told_by_both}
 use Rattle.disk_walk.specs.Whole.{OfWholeLogs}
 use Rattle.redone_pages.specs.declared.range.TableRange.{TableRange}
 use Rattle.disk_versions.specs.Met.{AreMet}
@@ -164,3 +167,14 @@ scan_more range early old new r records met rows turns is_early stands turn is =
 
 pub scanned_more : (at : Images) (old new : TableScan) (r : LogRecord) → new.met.made.records ≡ old.met.made.records ++ r ∷ [] → (AreMet at old.met → AreMet at new.met) → ScansAlso at r old new
 scanned_more at old new r also met = λ records is. record { records_are = also ∙ ap (λ (rs : List LogRecord). rs ++ r ∷ []) is.records_are; met = met is.met }
+
+-- the same of what a call answered
+pub scans_by : {U : Type 0} (start end : Option Contents) (f0 f1 : ℕ) (r : LogRecord) (old new : TableScan) (result : Result U DiskError) → versions.Reads start end f0 f1 (λ _ c. AreMet (page_at c.pages) old.met → AreMet (page_at c.pages) new.met) result
+    → OnOk result (new.met.made.records ≡ old.met.made.records ++ r ∷ []) → Reads start end f0 f1 (λ _ c. ScansAlso (page_at c.pages) r old new) result
+scans_by start end f0 f1 r old new (Ok u) k also = record {
+  ok = told_by start (λ (c : Contents). AreMet (page_at c.pages) old.met → AreMet (page_at c.pages) new.met) (λ (c : Contents). ScansAlso (page_at c.pages) r old new) (λ c met. scanned_more (page_at c.pages) old new r also met) k.ok;
+  failed = k.failed;
+  same = k.same;
+  later = k.later;
+}
+scans_by start end f0 f1 r old new (Err e) k also = record { ok = tt; failed = k.failed; same = k.same; later = k.later }

@@ -27,8 +27,8 @@ returns-in-Some g c =
     subst (λ (v : Verdict). IsTold d c.args.behind v) (sym c.unsound.ensures)
     (unfit_told d c.args.ends.now c.args.behind logs c.in_ok-found.found c.in-Some.at ended c.in-Some.is (told logs ended.whole ended.ends_are (summed logs ended.whole ended.ends_are).fit)))
 
-pub returns-in-None : goal.returns-in-None
-returns-in-None g c =
+pub returns : goal.returns
+returns g c =
     let first = c.in_ok-summary.ensures.tells in
     let read = c.in_ok-found.ensures in
     let s = c.in_ok-summary.summary in

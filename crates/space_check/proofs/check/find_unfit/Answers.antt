@@ -16,5 +16,5 @@ returns-then-fits g c = no_read _ _ (Told c.args.ends.now c.args.fits) _ (λ (d 
 
 pub returns-else-fits : goal.returns-else-fits
 returns-else-fits g c =
-    reads_as _ _ _ _ (λ (found : Option Spot) (d : Contents). OfWholeLogs c.args.ends.now (AreFitTold found) d) (Told c.args.ends.now c.args.fits) c.find_first_unfit-else.result c.find_first_unfit-else.ensures
+    reads_as _ _ _ _ (λ (found : Option Spot) (d : Contents). OfWholeLogs c.args.ends.now (AreFitTold found) d) (Told c.args.ends.now c.args.fits) c.find_first_unfit.result c.find_first_unfit.ensures
     (λ (d : Contents) (found : Option Spot) told logs whole ends_are fit. told logs whole ends_are)

@@ -26,14 +26,14 @@ returns-in-Unplaced g c =
       later = (let a = first.later in let b = read.later in omega (arith, a, b));
     }
 
-pub returns-in-All : goal.returns-in-All
-returns-in-All g c =
+pub returns : goal.returns
+returns g c =
     let first = c.in_ok-scan.ensures.scanned in
     let read = c.in_ok-placed.ensures in
     record {
       ok =
-          range_told (g.D.Disk.contents c.args.disk.now) (g.D.Disk.contents c.scan_tables.new.disk) c.args.is_early c.args.ends.now c.args.renews c.args.behind c.args.range c.in_ok-scan.scan c.in_ok-placed.placed c.in-All.pages c.args.told.now c.in_ok-told.told
-          c.in-All.is c.in_ok-scan.ensures.scan.range_is (adds_early c.args.range c.args.is_early c.in_ok-scan.scan c.in-All.pages c.args.told.now c.in_ok-told.told c.in_ok-scan.ensures.scan c.in_ok-told.ensures) first.ok first.same read.ok;
+          range_told (g.D.Disk.contents c.args.disk.now) (g.D.Disk.contents c.scan_tables.new.disk) c.args.is_early c.args.ends.now c.args.renews c.args.behind c.args.range c.in_ok-scan.scan c.in_ok-placed.placed c.in-All.pages c.args.told.now c.in_ok-told-in-All.told
+          c.in-All.is c.in_ok-scan.ensures.scan.range_is (adds_early c.args.range c.args.is_early c.in_ok-scan.scan c.in-All.pages c.args.told.now c.in_ok-told-in-All.told c.in_ok-scan.ensures.scan c.in_ok-told-in-All.ensures) first.ok first.same read.ok;
       failed = λ e. absurd cc;
       same = same_on _ _ _ first.same read.same;
       later = (let a = first.later in let b = read.later in omega (arith, a, b));

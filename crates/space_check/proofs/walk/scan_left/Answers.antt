@@ -5,7 +5,8 @@ use Rattle.space_check.proofs.walk.scan_left.Goals as goal
 
 pub loop-init : goal.loop-init
 loop-init g c = record {
-  scan = λ range is. is;
+  scan = λ range early is. is;
+  range = c.requires.range;
   scanned = none_scanned (g.D.Disk.contents c.args.disk.now) c.args.heads.now.heads c.args.scan.now;
   block = refl;
   same = same_self (g.D.Disk.contents c.args.disk.now);
@@ -31,12 +32,13 @@ pub loop-preserved : goal.loop-preserved
 loop-preserved g c =
     let held = c.loop.invariant in
     let read = c.in_ok-it.ensures.next in
-    let then = c.in_ok-take_any.ensures.scanned in
+    let then = c.in_ok-take_any-in-Record.ensures.scanned in
     let first = held.later in
     let second = read.later in
     let third = then.later in
     record {
-      scan = λ range is. c.in_ok-take_any.ensures.scan range (held.scan range is);
+      scan = λ range early is. c.in_ok-take_any-in-Record.ensures.scan range early (held.scan range early is);
+      range = c.in_ok-take_any-in-Record.ensures.range;
       scanned =
           more_scanned (g.D.Disk.contents c.args.disk.now) (g.D.Disk.contents c.loop.disk) (g.D.Disk.contents c.next_of_all.new.disk) c.args.heads.now.heads c.loop.heads.heads c.next_of_all.new.heads.heads c.args.scan.now c.loop.scan
           c.take_any.new.self c.in_ok-it.field-0 _ c.in-Record.it held.scanned held.same read.ok c.in-Record.is (same_on _ _ _ held.same read.same) then.ok;

@@ -17,3 +17,6 @@ returns-clause-scanned g c =
       same = read.same;
       later = read.later;
     }
+
+pub returns-clause-scan : goal.returns-clause-scan
+returns-clause-scan g c = c.in_ok-scan_left.ensures.scan c.args.range c.args.is_early c.new-scan.ensures.scan
