@@ -20,8 +20,10 @@ use Rattle.log_trans.specs.Courses.{open_trans}
 use Rattle.log_trans.specs.declared.opened.OpenTran.{OpenTran}
 use Rattle.restart_closing.specs.Closing.{OpensAlike}
 use Rattle.failed_logs.specs.Given.{ArePlain, is_checkpoint}
-use Rattle.claimed_logs.specs.Courses.{LeavesAlike}
+use Rattle.claimed_logs.specs.Commits.{commits_last}
+use Rattle.claimed_logs.specs.Courses.{LeavesAlike, StandsAlike}
 use Rattle.claimed_logs.specs.Logs.{FrontsAlike}
+use Rattle.claimed_logs.proofs.Commits.{both_last, front_last}
 
 pub record Facts : Type 0 where
   pub both : BothTell
@@ -93,10 +95,10 @@ none_names [] plain place = tt
 none_names (r ∷ rs) plain place = (plain_names place r.body plain.0, none_names rs plain.1 place)
 
 -- last records of a log behind which these are
-record Back (log : List ℕ) (new : List LogRecord) (start : ℕ) (records : List LogRecord) : Type 0 where
-  back : List LogRecord
-  are : records ≡ back ++ new
-  last : AreLastFrom log start back
+pub record Back (log : List ℕ) (new : List LogRecord) (start : ℕ) (records : List LogRecord) : Type 0 where
+  pub back : List LogRecord
+  pub are : records ≡ back ++ new
+  pub last : AreLastFrom log start back
 
 module _ (facts : Facts) where
   -- ---- two readings of a log, behind which the same records stand
@@ -122,17 +124,17 @@ module _ (facts : Facts) where
               inr (still_open back new id spot some there.unclosed none (facts.both.changed back new id spot ∙ or_left (has_changed back id spot) (has_changed new id spot) there.changed))
 
   -- ---- a log
-  back_of : (log : List ℕ) (new : List LogRecord) (start : ℕ) (records : List LogRecord) → AreWhole log → AllByRecursion IsAllowed new → NoneNames new → AreLastFrom (log ++ log_bytes new) start records → Back log new start records
+  pub back_of : (log : List ℕ) (new : List LogRecord) (start : ℕ) (records : List LogRecord) → AreWhole log → AllByRecursion IsAllowed new → NoneNames new → AreLastFrom (log ++ log_bytes new) start records → Back log new start records
   back_of log new start records whole allowed none last = record { back = are.back; are = are.are ∙ ap (λ (z : List LogRecord). are.back ++ z) (are.all (omega arith)); last = are.last }
     where
       are : AreBehind log new (length (log_bytes new)) start records
       are = facts.last log new (length (log_bytes new)) start records whole allowed none (subst (λ (z : List ℕ). AreLastFrom (log ++ z) start records) (sym (take_all (length (log_bytes new)) (log_bytes new) (omega arith))) last)
 
   -- so it is behind records of which none changes a row for a transaction that the log closes
-  pub alike_more : (log : List ℕ) (new : List LogRecord) → AreWhole log → AllByRecursion IsAllowed new → NoneNames new
+  opens_behind : (log : List ℕ) (new : List LogRecord) → AreWhole log → AllByRecursion IsAllowed new → NoneNames new
       → ((start : ℕ) (back : List LogRecord) → AreLastFrom log start back → (id : ℕ) (spot : Spot) → id ≢ 0 → has_changed new id spot ≡ true → is_closed back id ≡ false)
       → OpensAlike log → OpensAlike (log ++ log_bytes new)
-  alike_more log new whole allowed none unclosed alike start records last begin others also id spot some changed =
+  opens_behind log new whole allowed none unclosed alike start records last begin others also id spot some changed =
       subst (λ (z : List LogRecord). (is_closed others id ≡ true) ⊎ (has_opened (open_trans z) id spot ≡ true)) (sym one.are)
       (subst (λ (z : List LogRecord). (is_closed z id ≡ true) ⊎ (has_opened (open_trans (one.back ++ new)) id spot ≡ true)) (sym two.are)
       (opens_more one.back two.back new (unclosed start one.back one.last) (alike start one.back one.last begin two.back two.last) id spot some
@@ -144,21 +146,31 @@ module _ (facts : Facts) where
       two : Back log new begin others
       two = back_of log new begin others whole allowed none also
 
+  pub alike_more : (log : List ℕ) (new : List LogRecord) → AreWhole log → AllByRecursion IsAllowed new → NoneNames new → commits_last new ≡ true
+      → ((start : ℕ) (back : List LogRecord) → AreLastFrom log start back → (id : ℕ) (spot : Spot) → id ≢ 0 → has_changed new id spot ≡ true → is_closed back id ≡ false)
+      → StandsAlike log → StandsAlike (log ++ log_bytes new)
+  alike_more log new whole allowed none ordered unclosed alike = record {
+    opens = opens_behind log new whole allowed none unclosed alike.opens;
+    commits = λ start records last.
+        let one : Back log new start records = back_of log new start records whole allowed none last in
+        subst (λ (z : List LogRecord). commits_last z ≡ true) (sym one.are) (both_last one.back new allowed (unclosed start one.back one.last) (alike.commits start one.back one.last) ordered);
+  }
+
   -- ---- whatever front of the log buffer is behind it
-  pub fronts_begin : (log : List ℕ) → OpensAlike log → FrontsAlike log []
-  fronts_begin log alike front rest e = subst (λ (z : List LogRecord). OpensAlike (log ++ log_bytes z)) (sym (front_none front rest e)) (subst OpensAlike (sym (append-nil log)) alike)
+  pub fronts_begin : (log : List ℕ) → StandsAlike log → FrontsAlike log []
+  fronts_begin log alike front rest e = subst (λ (z : List LogRecord). StandsAlike (log ++ log_bytes z)) (sym (front_none front rest e)) (subst StandsAlike (sym (append-nil log)) alike)
 
   pub fronts_forced : (log : List ℕ) (pend : List LogRecord) → FrontsAlike log pend → FrontsAlike (log ++ log_bytes pend) []
   fronts_forced log pend alike = fronts_begin (log ++ log_bytes pend) (alike pend [] (sym (append-nil pend)))
 
-  pub fronts_more : (log : List ℕ) (pend new : List LogRecord) → AreWhole log → AllByRecursion IsAllowed pend → AllByRecursion IsAllowed new → ArePlain pend → ArePlain new
+  pub fronts_more : (log : List ℕ) (pend new : List LogRecord) → AreWhole log → AllByRecursion IsAllowed pend → AllByRecursion IsAllowed new → ArePlain pend → ArePlain new → commits_last new ≡ true
       → ((start : ℕ) (back : List LogRecord) → AreLastFrom log start back → (id : ℕ) (spot : Spot) → id ≢ 0 → has_changed new id spot ≡ true → is_closed (back ++ pend) id ≡ false)
       → FrontsAlike log pend → FrontsAlike log (pend ++ new)
-  fronts_more log pend new whole allowed fresh plain clear unclosed alike front rest e = by (split_front pend new front rest e)
+  fronts_more log pend new whole allowed fresh plain clear ordered unclosed alike front rest e = by (split_front pend new front rest e)
     where
-      behind : (f : List LogRecord) → new ≡ f ++ rest → OpensAlike ((log ++ log_bytes pend) ++ log_bytes f)
+      behind : (f : List LogRecord) → new ≡ f ++ rest → StandsAlike ((log ++ log_bytes pend) ++ log_bytes f)
       behind f is = alike_more (log ++ log_bytes pend) f (facts.whole log pend whole allowed) (front_all IsAllowed f rest (subst (λ (z : List LogRecord). AllByRecursion IsAllowed z) is fresh))
-          (none_names f (front_all (λ (r : LogRecord). is_checkpoint r.body ≡ false) f rest (subst ArePlain is clear))) unclosed_f (alike pend [] (sym (append-nil pend)))
+          (none_names f (front_all (λ (r : LogRecord). is_checkpoint r.body ≡ false) f rest (subst ArePlain is clear))) (front_last f rest (subst (λ (z : List LogRecord). commits_last z ≡ true) is ordered)) unclosed_f (alike pend [] (sym (append-nil pend)))
         where
           unclosed_f : (start : ℕ) (back : List LogRecord) → AreLastFrom (log ++ log_bytes pend) start back → (id : ℕ) (spot : Spot) → id ≢ 0 → has_changed f id spot ≡ true → is_closed back id ≡ false
           unclosed_f start back last id spot some changed =
@@ -167,10 +179,10 @@ module _ (facts : Facts) where
               (unclosed start one.back one.last id spot some
               (subst (λ (z : List LogRecord). has_changed z id spot ≡ true) (sym is) (facts.both.changed f rest id spot ∙ or_left (has_changed f id spot) (has_changed rest id spot) changed)))
 
-      by : ((r : List LogRecord) × (pend ≡ front ++ r)) ⊎ ((f : List LogRecord) × (front ≡ pend ++ f) × (new ≡ f ++ rest)) → OpensAlike (log ++ log_bytes front)
+      by : ((r : List LogRecord) × (pend ≡ front ++ r)) ⊎ ((f : List LogRecord) × (front ≡ pend ++ f) × (new ≡ f ++ rest)) → StandsAlike (log ++ log_bytes front)
       by (inl (r, is)) = alike front r is
-      by (inr (f, is, rests)) = subst (λ (z : List LogRecord). OpensAlike (log ++ log_bytes z)) (sym is)
-          (subst (λ (z : List ℕ). OpensAlike (log ++ z)) (sym (flat_map-append record_bytes pend f)) (subst OpensAlike (append_assoc log (log_bytes pend) (log_bytes f)) (behind f rests)))
+      by (inr (f, is, rests)) = subst (λ (z : List LogRecord). StandsAlike (log ++ log_bytes z)) (sym is)
+          (subst (λ (z : List ℕ). StandsAlike (log ++ z)) (sym (flat_map-append record_bytes pend f)) (subst StandsAlike (append_assoc log (log_bytes pend) (log_bytes f)) (behind f rests)))
 
   -- ---- what is left of such a log where so many bytes of the records are behind it
   pub leaves_front : (log : List ℕ) (pend : List LogRecord) (n : ℕ) → AreWhole log → AllByRecursion IsAllowed pend → FrontsAlike log pend → LeavesAlike (log ++ take n (log_bytes pend))

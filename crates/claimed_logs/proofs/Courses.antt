@@ -28,7 +28,7 @@ use Rattle.restart_marks.specs.Adopt.{adopted_after, adopted_as, adopted_by, ado
 use Rattle.restart_marks.specs.State.{RestartState, with_trans}
 use Rattle.restart_law.specs.Reads.{ReadsTrue, StillReads}
 use Rattle.restart_claims.specs.Whole.{ClosesTruly}
-use Rattle.restart_closing.specs.Closing.{HasLog, IsClosedIn, OpensAlike, RestartCloses, StillCloses, TranCloses, trans_of}
+use Rattle.restart_closing.specs.Closing.{HasLog, IsClosedIn, RestartCloses, StillCloses, TranCloses, trans_of}
 use Rattle.restart_closing.specs.Resting.{HandedOver, HandsOver, Rests, RestsStay, StillRests}
 use Rattle.restart_closing.proofs.Events.{no_rest}
 use Rattle.restart_closing.proofs.Logs.{AreBack, no_changes, none_names}
@@ -40,10 +40,11 @@ use Rattle.lock_restarts.specs.Courses.{IsInOrder}
 use Rattle.failed_logs.specs.Given.{AdoptsAll, AdoptsLeft, FreeHoldNothing, NoneInSlots, Restarting, Takes}
 use Rattle.failed_logs.specs.Given.{LogLocked}
 use Rattle.failed_logs.specs.Logs.{IdleTakesOver}
-use Rattle.claimed_logs.specs.Courses.{LeavesNothing, RestartCourse, RestartHanded, RestartOpen}
+use Rattle.claimed_logs.specs.Courses.{LeavesNothing, RestartCourse, RestartHanded, RestartOpen, StandsAlike}
 use Rattle.claimed_logs.specs.Logs.{RestartLogged}
 use Rattle.claimed_logs.specs.Steps.{CourseEnds, CourseHands, CourseSteps, LockedAlike}
 use Rattle.claimed_logs.proofs.Alike.{Facts as AlikeFacts, alike_more}
+use Rattle.claimed_logs.proofs.Commits.{undone_last}
 use Rattle.claimed_logs.proofs.Restarts.{kept_some, not_handed}
 
 pub record Facts : Type 0 where
@@ -58,7 +59,7 @@ never : false ≡ true → ⊥
 never e = cc
 
 -- what a disk tells of a log is one thing
-one_log : (drive : Drive) (member : ℕ) (a b : List ℕ) → HasLog drive member a → HasLog drive member b → a ≡ b
+pub one_log : (drive : Drive) (member : ℕ) (a b : List ℕ) → HasLog drive member a → HasLog drive member b → a ≡ b
 one_log drive member a b x y =
     let same : x.contents ≡ y.contents = let both : Some x.contents ≡ Some y.contents = sym x.told ∙ y.told in cc in
     sym x.log ∙ ap (λ (z : Contents). log_of z.logs member) same ∙ y.log
@@ -102,10 +103,10 @@ course_steps facts log left w u v h k x a s e ok has told l c = by c.goes
         still : StillCloses c.whole c.rest o.pend v.drive k.marks
         still = facts.closes c.whole c.rest o.pend u v h k x a e ok l.stands reads has_whole o.closes
 
-        alike : ((still.more ≡ []) × (still.left ≡ o.pend ++ still.new)) ⊎ ((still.more ≡ o.pend) × (still.left ≡ still.new)) → OpensAlike (c.whole ++ log_bytes still.more)
-        alike (inl none) = subst (λ (z : List LogRecord). OpensAlike (c.whole ++ log_bytes z)) (sym none.0) (subst OpensAlike (sym (append-nil c.whole)) c.alike)
-        alike (inr all) = subst (λ (z : List LogRecord). OpensAlike (c.whole ++ log_bytes z)) (sym all.0)
-            (alike_more facts.alike c.whole o.pend o.closes.whole o.closes.waits.allowed (none_names o.pend o.closes.waits.back)
+        alike : ((still.more ≡ []) × (still.left ≡ o.pend ++ still.new)) ⊎ ((still.more ≡ o.pend) × (still.left ≡ still.new)) → StandsAlike (c.whole ++ log_bytes still.more)
+        alike (inl none) = subst (λ (z : List LogRecord). StandsAlike (c.whole ++ log_bytes z)) (sym none.0) (subst StandsAlike (sym (append-nil c.whole)) c.alike)
+        alike (inr all) = subst (λ (z : List LogRecord). StandsAlike (c.whole ++ log_bytes z)) (sym all.0)
+            (alike_more facts.alike c.whole o.pend o.closes.whole o.closes.waits.allowed (none_names o.pend o.closes.waits.back) (undone_last o.pend o.closes.waits.back)
             (λ start back last id spot some changed. absurd (none_changed o.pend o.closes.waits.back id spot changed)) c.alike)
     by (inr o) = record {
       whole = c.whole;
@@ -190,7 +191,7 @@ course_ends facts log s h free none ends c = by c.goes
     as_whole rest is nothing = sym (is ∙ ap (λ (z : List ℕ). c.whole ++ z) nothing ∙ append-nil c.whole)
 
     at_log : c.whole ≡ log → LogLocked c.whole [] h.marks → LockedAlike log h.marks
-    at_log same locked = record { locked = subst (λ (z : List ℕ). LogLocked z [] h.marks) same locked; alike = subst OpensAlike same c.alike }
+    at_log same locked = record { locked = subst (λ (z : List ℕ). LogLocked z [] h.marks) same locked; alike = subst StandsAlike same c.alike }
 
     by : RestartOpen c.whole c.rest s h.marks ⊎ RestartHanded c.whole c.rest s h.marks → LockedAlike log h.marks
     by (inl o) = at_log (as_whole c.rest c.is (no_rest c.rest (sym (o.closes.read ends.read).tail ∙ ends.tail))) (facts.takes c.whole h h 0 [] o.closes.whole o.idle free none refl leaves)

@@ -10,7 +10,7 @@ use Rattle.facility.specs.States.{Held as Facility}
 use Rattle.list_structure.specs.declared.standing.MemberStatus.{MemberStatus}
 use Rattle.list_structure.specs.declared.standing.MemberStatus.TheVariants.{Down, Restarting, Up}
 use Rattle.list_structure.specs.Standings.{is_live, status_of}
-use Rattle.log_numbers.specs.Numbers.{CommandsCount}
+use Rattle.log_numbers.specs.Numbers.{CommandsCount, ForwardReach, forward_in}
 use Rattle.member_intents.specs.declared.outcome.Answered.{Answered}
 use Rattle.member_intents.specs.declared.outcome.Answered.TheVariants as answered
 use Rattle.member_resources.specs.Events.{Drive, World as Resources}
@@ -38,7 +38,7 @@ use Rattle.lock_restarts.specs.Courses.{Follows, HasHandedOver, IsInOrder, Resta
 use Rattle.lock_restarts.specs.Stands.{Spares}
 use Rattle.failed_logs.specs.Given.{LockedReaches, LogLocked, TellsLog}
 use Rattle.failed_logs.specs.Given.{NoneInSlots}
-use Rattle.restart_closing.specs.Closing.{HasLog}
+use Rattle.restart_closing.specs.Closing.{HasLog, ListedBelow}
 use Rattle.failed_logs.specs.Given.{Restarting as RestartHeld}
 use Rattle.failed_logs.specs.Given.stepped_variants as steps
 use Rattle.failed_logs.specs.Given.{GoesOn, RestartEnds, RestartGoesOn, Takes, as_restarting}
@@ -52,12 +52,15 @@ use Rattle.failed_logs.specs.Given.{freed_world}
 use Rattle.failed_logs.specs.Given.{LocksTied, MemberStands, RestartInHand, RestartStands, known, known_by}
 use Rattle.claimed_logs.specs.Events.{RestartEventsLogged, UpEventsLogged}
 use Rattle.claimed_logs.specs.Courses.{LeavesNothing, RestartCourse}
-use Rattle.claimed_logs.specs.Logs.{FrontsAlike, MemberLogged, OneLogged, RestartLogged, UpLogged}
-use Rattle.claimed_logs.specs.Steps.{CourseEnds, CourseHands, CourseSteps, EndsSo, EndsTell, HandedLogged, LockedAlike, RestartStepsLogged, StillLogged, UpStepsLogged}
+use Rattle.claimed_logs.specs.Logs.{ForwardOpen, FrontsAlike, LogBelow, MemberLogged, OneLogged, RestartLogged, UpLogged}
+use Rattle.claimed_logs.specs.Steps.{CourseBelow, CourseEnds, CourseHands, CourseSteps, EndsSo, EndsTell, HandedLogged, LockedAlike, RestartStepsLogged, StillBelow, StillLogged, UpStepsLogged}
 use Rattle.claimed_logs.proofs.Alike.{Facts as AlikeFacts, fronts_begin}
 use Rattle.claimed_logs.proofs.Courses.{own_course}
 use Rattle.claimed_logs.proofs.Ends.{all_over}
 use Rattle.claimed_logs.proofs.Found.{freed_spares}
+use Rattle.claimed_logs.proofs.Below.{handed_below}
+use Rattle.claimed_logs.proofs.Forward.{all_below, all_free, forward_begins, none_forward}
+use Rattle.claimed_logs.proofs.Logs.{names_below}
 use Rattle.claimed_logs.proofs.Own.{begun_locked, told_locked}
 
 -- of its log on disk
@@ -65,6 +68,7 @@ pub record CourseFacts : Type 0 where
   pub steps : CourseSteps
   pub hands : CourseHands
   pub ends : CourseEnds
+  pub below : CourseBelow
 
 pub record Facts : Type 0 where
   pub alike : AlikeFacts
@@ -82,6 +86,7 @@ pub record Facts : Type 0 where
   pub follow : RestartsFollow
   pub standings : StandingsFollow
   pub commands : CommandsCount
+  pub reaches : ForwardReach
 
 never : true ≡ false → ⊥
 never e = cc
@@ -95,6 +100,9 @@ index k = omega arith
 
 from_one : (k : ℕ) → 1 ≤ k + 1
 from_one k = omega arith
+
+none_left : (m n : ℕ) → m ≤ n → n ≡ 0 → m ≡ 0
+none_left m n le none = omega (arith, le, none)
 
 other : (k at : ℕ) → k ≢ at → k + 1 ≢ at + 1
 other k at ne e = ne (omega (arith, e))
@@ -133,7 +141,7 @@ set_live (x ∷ xs) (suc i) a e = set_live xs i a e
 
 -- ---- a member that is up
 pub up_events : Facts → UpEventsLogged
-up_events facts c d old new at m n w t e ok told left unclosed moves l = facts.one c d old new w moves.world at n t l
+up_events facts c d old new at m n w t e ok told left moves l = facts.one c d old new w moves.world at n t l
     (record {
       has = e.has;
       members = e.count;
@@ -145,11 +153,13 @@ up_events facts c d old new at m n w t e ok told left unclosed moves l = facts.o
       claims = λ k o q ne. facts.spare (OfMember m.id) old new w moves (k + 1) o q (apart (k + 1) m.id (λ z. other k at ne (z ∙ stood.id)));
     })
     (record {
-      up = λ _. record { pend = step.logged.pend; locked = subst (λ (z : List ℕ). LogLocked z step.logged.pend n.holds.marks) (sym log_is) step.logged.locked; counted = step.logged.counted; alike = subst (λ (z : List ℕ). FrontsAlike z step.logged.pend) (sym log_is) step.logged.alike };
+      up = λ _. record { pend = step.logged.pend; locked = subst (λ (z : List ℕ). LogLocked z step.logged.pend n.holds.marks) (sym log_is) step.logged.locked; counted = step.logged.counted; alike = subst (λ (z : List ℕ). FrontsAlike z step.logged.pend) (sym log_is) step.logged.alike; forward = subst (λ (z : List ℕ). ForwardOpen z step.logged.pend new.facility.counter n.holds.marks) (sym log_is) step.logged.forward };
       restarts = subst (λ (z : Option RestartHeld). IfSome z (λ q. RestartLogged (log_of d.logs (at + 1)) moves.world q.resources.marks)) (sym (stood_now.up now_up)) tt;
       course = subst (λ (z : Option RestartHeld). IfSome z (λ q. RestartCourse (log_of d.logs (at + 1)) q.resources.marks n.holds.marks)) (sym (stood_now.up now_up)) tt;
       down = λ dead. absurd (never (sym (ap is_live now_up) ∙ dead));
       counted = step.logged.counted;
+      below = subst (LogBelow new.facility.counter) (sym log_is) step.below;
+      names = subst (λ (z : Option RestartHeld). IfSome z (λ q. ListedBelow new.facility.counter q.resources.marks.trans.list)) (sym (stood_now.up now_up)) tt;
     })
   where
     stood : MemberStands old.facility (at + 1) m
@@ -180,7 +190,7 @@ up_events facts c d old new at m n w t e ok told left unclosed moves l = facts.o
     tells = subst (λ (k : ℕ). TellsLog (log_of c.logs (at + 1)) e.drive k) (sym stood.member) (record { contents = c; told = told; there = within old.members at m c.logs e.had l.there; bytes = refl })
 
     step : StillLogged e.left old.facility.counter new.facility.counter n.holds.marks
-    step = facts.up (log_of c.logs (at + 1)) m n u v old.fates new.fates e.place e.stepped e.steps ok rests (subst (λ (k : ℕ). 1 ≤ k) (sym stood.member) (from_one at)) (stood_now.member ∙ sym stood.member) tells unclosed (before.up was_up)
+    step = facts.up (log_of c.logs (at + 1)) m n u v old.fates new.fates e.place e.stepped e.steps ok rests (subst (λ (k : ℕ). 1 ≤ k) (sym stood.member) (from_one at)) (stood_now.member ∙ sym stood.member) tells before.below (before.up was_up)
 
     log_is : log_of d.logs (at + 1) ≡ step.log
     log_is = ap (λ (k : ℕ). log_of d.logs k) (sym stood_now.member) ∙ one_told step.log e.left n.holds.marks.member d step.tells left
@@ -255,6 +265,8 @@ in_any log w z s over l = record {
   bytes = l.bytes;
   are = l.are;
   few = l.few;
+  brief = l.brief;
+  counts = l.counts;
   stands = l.stands;
   reads = l.reads;
   claimed = record {
@@ -272,7 +284,7 @@ restart_events facts c d old new at m n w t e told left moves counts counted l =
       others = e.others;
       logs = goes.count;
       left = λ k ne. goes.others (k + 1) (from_one k) (other k at ne);
-      counter = restart_rises facts.commands (as_restarting u) (as_restarting v) before.resources e.made.makes.makes.happens.after e.made.makes.makes.happens.intent e.sent e.answered e.made.makes.makes.happens.said e.made.makes.makes.happens.runs;
+      counter = rises;
       statuses = apart_status;
       claims = λ k o q ne. facts.spare (OfMember m.id) old new w moves.moves (k + 1) o q (apart (k + 1) m.id (λ z. other k at ne (z ∙ stood.id)));
     })
@@ -282,6 +294,8 @@ restart_events facts c d old new at m n w t e told left moves counts counted l =
       course = subst (λ (x : Option RestartHeld). IfSome x (λ q. RestartCourse (log_of d.logs (at + 1)) q.resources.marks n.holds.marks)) (sym n_restart) (course_on reached.resources.marks.is_up ends.goes_on);
       down = λ dead. absurd (never (sym still_live ∙ dead));
       counted = counted;
+      below = λ start back last. all_below old.facility.counter new.facility.counter back rises (low.log start back last);
+      names = names_below old.facility.counter new.facility.counter n.restart rises (subst (λ (x : Option RestartHeld). IfSome x (λ q. ListedBelow old.facility.counter q.resources.marks.trans.list)) (sym n_restart) (names_on reached.resources.marks.is_up ends.goes_on));
     })
   where
     z : World
@@ -393,6 +407,25 @@ restart_events facts c d old new at m n w t e told left moves counts counted l =
     none : NoneInSlots m.holds.marks
     none = stood.rests (stood.restarts restarting)
 
+    -- ---- numbers
+    rises : old.facility.counter ≤ new.facility.counter
+    rises = restart_rises facts.commands (as_restarting u) (as_restarting v) before.resources e.made.makes.makes.happens.after e.made.makes.makes.happens.intent e.sent e.answered e.made.makes.makes.happens.said e.made.makes.makes.happens.runs
+
+    low : StillBelow old.facility.counter (log_of d.logs (at + 1)) reached.resources.marks.trans.list
+    low = facts.courses.below (log_of c.logs (at + 1)) (log_of d.logs (at + 1)) w (as_restarting u) (as_restarting v) before.resources reached.resources e.sent e.answered m.holds.marks old.facility.counter e.made.makes.makes.happens (not_failed e.answered e.unfailed)
+        (subst (λ (k : ℕ). HasLog (as_restarting u).drive k (log_of c.logs (at + 1))) (sym standing.member) (record { contents = c; told = told; there = there; log = refl }))
+        (subst (λ (k : ℕ). HasLog (as_restarting v).drive k (log_of d.logs (at + 1))) (sym (follows.member ∙ standing.member)) (record { contents = d; told = left; there = ap (λ (k : ℕ). nat_lt (at + 1 - 1) k) goes.count ∙ there; log = refl }))
+        restart_logged before_course logged.below
+        (subst (λ (z : Option RestartHeld). IfSome z (λ q. ListedBelow old.facility.counter q.resources.marks.trans.list)) e.made.makes.makes.had logged.names)
+
+    names_kept : (adopted : Option Adopted) (rest : RestartHeld) → Takes reached adopted rest → ListedBelow old.facility.counter rest.resources.marks.trans.list
+    names_kept adopted rest (inl takes) = subst (λ (q : RestartHeld). ListedBelow old.facility.counter q.resources.marks.trans.list) (sym takes.1) low.names
+    names_kept adopted rest (inr takes) = subst (λ (q : RestartHeld). ListedBelow old.facility.counter q.resources.marks.trans.list) (sym takes.1) (handed_below old.facility.counter reached.resources.marks reached.resources.marks.kept low.names)
+
+    names_on : (b : Bool) → GoesOn b reached m.holds e.made.mid.restart ends.left → IfSome e.made.mid.restart (λ q. ListedBelow old.facility.counter q.resources.marks.trans.list)
+    names_on true over = subst (λ (x : Option RestartHeld). IfSome x (λ q. ListedBelow old.facility.counter q.resources.marks.trans.list)) (sym over.0) tt
+    names_on false over = subst (λ (x : Option RestartHeld). IfSome x (λ q. ListedBelow old.facility.counter q.resources.marks.trans.list)) (sym over.restart) (names_kept over.left over.rest over.takes)
+
     -- what its member is told changes nothing of it
     told_through : (x : List ℕ) → LogLocked x [] ends.left.marks → LogLocked x [] n.holds.marks
     told_through x locked = subst (λ (z : Member). LogLocked x [] z.holds.marks) (sym e.made.enters.member)
@@ -420,6 +453,15 @@ restart_events facts c d old new at m n w t e told left moves counts counted l =
               ((facts.lists (as_restarting u) (as_restarting v) before.resources reached.resources e.sent e.answered e.made.makes.makes.happens restart_logged.stands).read so.was) over;
         }
 
+    -- no slot of it has a transaction
+    none_goes : ends.left ≡ m.holds → (id : ℕ) → id ≢ 0 → forward_in n.holds.marks.trans id ≡ 0
+    none_goes same id some =
+        let before : forward_in m.holds.marks.trans id ≡ 0 = none_forward m.holds.marks (all_free m.holds.marks stood.slots none) id in
+        let first : forward_in ends.left.marks.trans id ≡ 0 = ap (λ (z : MemberHeld). forward_in z.marks.trans id) same ∙ before in
+        let less = facts.reaches (begun ends.left e.place).marks ends.after.marks ends.tells.0 id some in
+        let last : forward_in ends.after.marks.trans id ≡ 0 = none_left (forward_in ends.after.marks.trans id) (forward_in ends.left.marks.trans id) less first in
+        ap (λ (z : Member). forward_in z.holds.marks.trans id) e.made.enters.member ∙ (ap (λ (z : Member). forward_in z.holds.marks.trans id) ends.member ∙ last)
+
     up_by : reached.resources.marks.is_up ≡ true → v.facility.lists.statuses ≢ u.facility.lists.statuses → UpLogged (log_of d.logs (at + 1)) new.facility.counter n.holds.marks
     up_by is changed =
         let whole : LockedAlike (log_of d.logs (at + 1)) m.holds.marks = facts.courses.ends (log_of d.logs (at + 1)) reached.resources.marks m.holds stood.free none (ended changed) course in
@@ -428,6 +470,7 @@ restart_events facts c d old new at m n w t e told left moves counts counted l =
           locked = told_through (log_of d.logs (at + 1)) (subst (λ (z : MemberHeld). LogLocked (log_of d.logs (at + 1)) [] z.marks) (sym (left_so reached.resources.marks.is_up is ends.goes_on)) whole.locked);
           counted = counted;
           alike = fronts_begin facts.alike (log_of d.logs (at + 1)) whole.alike;
+          forward = forward_begins (log_of d.logs (at + 1)) new.facility.counter n.holds.marks (none_goes (left_so reached.resources.marks.is_up is ends.goes_on));
         }
 
     up : status_of new.facility.lists.statuses (at + 1) ≡ Up → UpLogged (log_of d.logs (at + 1)) new.facility.counter n.holds.marks

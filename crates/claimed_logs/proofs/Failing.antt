@@ -24,10 +24,12 @@ use Rattle.log_appends.specs.Rests.{IsRest, LastWithoutRest}
 use Rattle.log_numbers.specs.Numbers.{CountedBegin}
 use Rattle.log_reader.specs.Keeping.{AreWhole}
 use Rattle.restart_law.specs.Reads.{AreLast}
+use Rattle.restart_closing.specs.Closing.{ListedBelow}
 use Rattle.claimed_logs.specs.Courses.{LeavesAlike, RestartCourse}
 use Rattle.claimed_logs.specs.Failing.{AnyBytes, HandedFailsLogged, HasFront, RestartFailsLogged, UpFailsLogged}
-use Rattle.claimed_logs.specs.Logs.{LeavesOthers, LogsClaimed, MemberLogged, OneLogged, RestartLogged, UpLogged}
-use Rattle.claimed_logs.proofs.Alike.{Facts as AlikeFacts, leaves_front}
+use Rattle.claimed_logs.specs.Logs.{LeavesOthers, LogBelow, LogsClaimed, MemberLogged, OneLogged, RestartLogged, UpLogged}
+use Rattle.claimed_logs.proofs.Alike.{Facts as AlikeFacts, leaves_front, none_names}
+use Rattle.claimed_logs.proofs.Below.{below_front}
 use Rattle.claimed_logs.proofs.Idle.{idle_begins}
 use Rattle.claimed_logs.proofs.Logs.{last_from}
 
@@ -111,8 +113,8 @@ module _ (facts : Facts) (c d : Contents) (old new : CrewState) (at : ℕ) (m n 
   from_one k = omega arith
 
   -- where its log, as it is left, has its claims in the world that moves lead to
-  pub behind : (Goes : List ℕ → List ℕ → Type 0) → OneGoes (at + 1) Goes c d → (moves : Moves (OfMember m.id) old new w) → LogClaimed (log_of d.logs (at + 1)) moves.world m.id → LeavesAlike (log_of d.logs (at + 1)) → LogsClaimed d new moves.world
-  behind Goes goes moves claimed leaves = facts.one c d old new w moves.world at n t l
+  pub behind : (Goes : List ℕ → List ℕ → Type 0) → OneGoes (at + 1) Goes c d → (moves : Moves (OfMember m.id) old new w) → LogClaimed (log_of d.logs (at + 1)) moves.world m.id → LeavesAlike (log_of d.logs (at + 1)) → LogBelow old.facility.counter (log_of d.logs (at + 1)) → LogsClaimed d new moves.world
+  behind Goes goes moves claimed leaves low = facts.one c d old new w moves.world at n t l
       (record {
         has = f.has;
         members = f.count;
@@ -133,6 +135,8 @@ module _ (facts : Facts) (c d : Contents) (old new : CrewState) (at : ℕ) (m n 
           idle = idle_begins facts.begin facts.spell n.id old.sizes n.holds stood_now.book f.down.holds;
         };
         counted = facts.counted new.facility.counter n.id old.sizes n.holds f.down.holds;
+        below = subst (λ (z : ℕ). LogBelow z (log_of d.logs (at + 1))) (sym f.failed.counter) low;
+        names = subst (λ (z : Option RestartHeld). IfSome z (λ q. ListedBelow new.facility.counter q.resources.marks.trans.list)) (sym f.down.rests) tt;
       })
     where
       tied : LocksTied new moves.world
@@ -144,7 +148,7 @@ module _ (facts : Facts) (c d : Contents) (old new : CrewState) (at : ℕ) (m n 
 pub up_fails : Facts → UpFailsLogged
 up_fails facts c d old new at m n w t f up goes l = record {
   moves = fails.moves;
-  logs = behind facts c d old new at m n w t f l (HasFront m) goes fails.moves (subst (λ (z : List ℕ). LogClaimed z fails.moves.world m.id) (sym front.1) (fails.claimed front.0)) (subst LeavesAlike (sym front.1) leaves);
+  logs = behind facts c d old new at m n w t f l (HasFront m) goes fails.moves (subst (λ (z : List ℕ). LogClaimed z fails.moves.world m.id) (sym front.1) (fails.claimed front.0)) (subst LeavesAlike (sym front.1) leaves) (subst (LogBelow old.facility.counter) (sym front.1) low);
 }
   where
     logged : UpLogged (log_of c.logs (at + 1)) old.facility.counter m.holds.marks
@@ -156,12 +160,16 @@ up_fails facts c d old new at m n w t f up goes l = record {
     front : HasFront m (log_of c.logs (at + 1)) (log_of d.logs (at + 1))
     front = goes.own (there facts c d old new at m n w t f l)
 
+    low : LogBelow old.facility.counter (log_of c.logs (at + 1) ++ take front.0 m.holds.marks.log.pending)
+    low = subst (λ (z : List ℕ). LogBelow old.facility.counter (log_of c.logs (at + 1) ++ take front.0 z)) (sym logged.locked.spelled)
+        (below_front old.facility.counter facts.alike.last (log_of c.logs (at + 1)) logged.pend front.0 logged.locked.whole logged.locked.allowed (none_names logged.pend logged.locked.plain) logged.forward.below (before facts c d old new at m n w t f l).below)
+
     leaves : LeavesAlike (log_of c.logs (at + 1) ++ take front.0 m.holds.marks.log.pending)
     leaves = subst (λ (z : List ℕ). LeavesAlike (log_of c.logs (at + 1) ++ take front.0 z)) (sym logged.locked.spelled)
         (leaves_front facts.alike (log_of c.logs (at + 1)) logged.pend front.0 logged.locked.whole logged.locked.allowed logged.alike)
 
 pub restart_fails : Facts → RestartFailsLogged
-restart_fails facts c d old new at m n w t f not_up goes left l = record { moves = fails.moves; logs = behind facts c d old new at m n w t f l AnyBytes goes fails.moves fails.claimed left.leaves }
+restart_fails facts c d old new at m n w t f not_up goes left low l = record { moves = fails.moves; logs = behind facts c d old new at m n w t f l AnyBytes goes fails.moves fails.claimed left.leaves low }
   where
     fails : StillClaimed (log_of d.logs (at + 1)) old new w m
     fails = facts.unread old new at m n w (log_of d.logs (at + 1)) t f not_up left.claimed
@@ -175,11 +183,11 @@ claimed_rest : LastWithoutRest → (whole rest : List ℕ) (w : World) (k : ℕ)
 claimed_rest law whole rest w k are is_rest claimed records last = claimed records (from_last whole last.start records (law whole rest last.start records are is_rest (last_from (whole ++ rest) records last)))
 
 pub handed_fails : Facts → HandedFailsLogged
-handed_fails facts c d old new at m n w whole rest t f not_up goes is is_rest alike locked l = record {
+handed_fails facts c d old new at m n w whole rest t f not_up goes is is_rest alike locked low l = record {
   moves = fails.moves;
   logs = behind facts c d old new at m n w t f l AnyBytes goes fails.moves
       (subst (λ (z : List ℕ). LogClaimed z fails.moves.world m.id) (sym is) (claimed_rest facts.without whole rest fails.moves.world m.id locked.whole is_rest fails.claimed))
-      (record { whole = whole; rest = rest; is = is; are = locked.whole; is_rest = is_rest; alike = alike });
+      (record { whole = whole; rest = rest; is = is; are = locked.whole; is_rest = is_rest; alike = alike }) low;
 }
   where
     fails : StillClaimed whole old new w m

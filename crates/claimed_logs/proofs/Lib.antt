@@ -1,6 +1,8 @@
 pub mod Unread
 pub mod Found
+pub mod Commits
 pub mod Alike
+pub mod Forward
 pub mod Idle
 pub mod Logs
 pub mod Failing
@@ -10,8 +12,10 @@ pub mod Up
 pub mod Own
 pub mod Restarts
 pub mod Courses
+pub mod Below
 pub mod Ends
 pub mod Runs
 pub mod Events
 pub mod Resting
 pub mod Taken
+pub mod Whole

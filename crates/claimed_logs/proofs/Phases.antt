@@ -20,7 +20,8 @@ use Rattle.restart_law.specs.Few.{ShortLogsNeedFew}
 use Rattle.restart_law.specs.Opens.{OpensBegin}
 use Rattle.restart_law.specs.Reads.{KnowsWhole, ReadsBegin}
 use Rattle.restart_claims.specs.Claims.{ClaimsLeft}
-use Rattle.restart_closing.specs.Closing.{ClosesBegin}
+use Rattle.restart_closing.specs.Closing.{ClosesBegin, ListedBelow}
+use Rattle.restart_closing.specs.Leaving.{LogsLeaveFew}
 use Rattle.script_phases.specs.Phases.{is_failed, restarts_in}
 use Rattle.failed_logs.specs.Given.{Restarting as RestartHeld}
 use Rattle.failed_logs.specs.Given.{Member}
@@ -33,7 +34,8 @@ use Rattle.failed_logs.specs.Given.{LogLocked}
 use Rattle.claimed_logs.specs.Beginning.{BeginKnowing, PhasesLogged}
 use Rattle.claimed_logs.specs.Courses.{LeavesAlike, RestartCourse}
 use Rattle.claimed_logs.specs.Logs.{DownLogged, LogsClaimed, MemberLogged, RestartLogged}
-use Rattle.claimed_logs.proofs.Logs.{LeftFacts, log_left, member_left}
+use Rattle.claimed_logs.proofs.Forward.{all_below}
+use Rattle.claimed_logs.proofs.Logs.{LeftFacts, last_from, log_left, member_left}
 
 never : true ≡ false → ⊥
 never e = cc
@@ -154,6 +156,7 @@ pub record Facts : Type 0 where
   pub more : CountedMore
   pub closes : ClosesBegin
   pub short : ShortLogsNeedFew
+  pub few : LogsLeaveFew
 
 dead_by : (s : MemberStatus) → is_failed s ≡ true → is_live s ≡ false
 dead_by Down e = absurd (never (sym e))
@@ -175,6 +178,8 @@ begun_logged facts log w k (Some q) is claimed fresh knows = record {
   bytes = log;
   are = is.are;
   few = facts.short log is.short;
+  brief = λ records last. facts.few log is.short last.start records (last_from log records last);
+  counts = (let none = ap (λ (z : RestartState). length z.trans.list) fresh.marks.rest in omega (arith, none));
   stands = facts.opens k q.resources.marks fresh.marks;
   reads = facts.reads k log q.resources.marks fresh.marks knows;
   claimed = facts.begins log w k q.resources.marks fresh.marks claimed;
@@ -189,8 +194,13 @@ begun_course law log k (Some q) own leaves idle fresh = record {
   rest = leaves.rest;
   is = leaves.is;
   alike = leaves.alike;
-  goes = inl (record { pend = []; closes = law leaves.whole leaves.rest k q.resources.marks leaves.are leaves.is_rest leaves.alike fresh.marks; idle = idle });
+  goes = inl (record { pend = []; closes = law leaves.whole leaves.rest k q.resources.marks leaves.are leaves.is_rest leaves.alike.opens fresh.marks; idle = idle });
 }
+
+-- with no transaction
+begun_names : (counter k : ℕ) (x : Option RestartHeld) → IsSomeAnd x (λ q. IsNew k q.resources) → IfSome x (λ q. ListedBelow counter q.resources.marks.trans.list)
+begun_names counter k None fresh = absurd fresh
+begun_names counter k (Some q) fresh = subst (λ (z : RestartState). ListedBelow counter z.trans.list) (sym fresh.marks.rest) tt
 
 member_turns : Facts → (c : Contents) (phase : Phase) (f g : Facility) (w z : World) (k : ℕ) (log : List ℕ) (m n : Member) (b : Bool) → begins_restart phase f.lists.statuses k ≡ b → Turns b m n (status_of f.lists.statuses k) (status_of g.lists.statuses k)
     → f.counter ≤ g.counter → ((o q : ℕ) → z.claims k o q ≡ w.claims k o q) → MemberStands f k m → IsLogOfBytes log → (begins_restart phase f.lists.statuses n.id ≡ true → IfSome n.restart (λ q. KnowsWhole log q.resources.marks))
@@ -201,6 +211,8 @@ member_turns facts c phase f g w z k log m n true e turns rises same stood is kn
   course = subst (λ (own : MarksState). IfSome n.restart (λ q. RestartCourse log q.resources.marks own)) (sym holds) (begun_course facts.closes log k n.restart m.holds.marks was.leaves was.idle fresh);
   down = λ dead. absurd (restarting_dead (status_of g.lists.statuses k) turns.2 dead);
   counted = subst (AreCounted g.counter) (sym holds) (facts.more f.counter g.counter m.holds.marks rises h.counted);
+  below = λ start back last. all_below f.counter g.counter back rises (h.below start back last);
+  names = begun_names g.counter k n.restart fresh;
 }
   where
     id : n.id ≡ k

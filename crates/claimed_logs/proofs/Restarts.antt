@@ -1,6 +1,6 @@
 -- The log of a member that restarts, behind an event of its restart, and behind what this hands over.
-use Rattle.std.proofs.Common.{◌≡◌, ℕ, refl, sym, ◌∙◌, ap, subst, Bool, true, false, inl, inr, List, Option, Some, None}
-use Rattle.std.specs.Prelude.{if◌then◌else◌, is_some}
+use Rattle.std.proofs.Common.{◌≡◌, ℕ, suc, ◌<◌, ◌≤◌, refl, sym, ◌∙◌, ap, subst, arith, Bool, true, false, inl, inr, List, [], ◌∷◌, length, Option, Some, None}
+use Rattle.std.specs.Prelude.{◌^◌, if◌then◌else◌, is_some, map}
 use Rattle.ds_disk.specs.Contents.{Contents, log_of}
 use Rattle.ds_model.specs.declared.log.LogRecord.{LogRecord}
 use Rattle.member_intents.specs.declared.outcome.Answered.{Answered}
@@ -10,8 +10,10 @@ use Rattle.restart_marks.specs.declared.intent.RestartSent.{RestartSent}
 use Rattle.restart_marks.specs.declared.marks.KeptBy.{KeptBy}
 use Rattle.restart_marks.specs.State.{RestartState, with_trans}
 use Rattle.restart_records.specs.Own.{OwnState}
-use Rattle.restart_records.specs.Trans.{no_trans, opened_among}
-use Rattle.restart_law.specs.Opens.{FewNeeds, ListGoes, ListsGo, OpensHand, OpensStand, OpensStay}
+use Rattle.log_trans.specs.Courses.{open_trans}
+use Rattle.restart_records.specs.declared.trans.RestartTran.{RestartTran}
+use Rattle.restart_records.specs.Trans.{TransState, no_trans, opened_among}
+use Rattle.restart_law.specs.Opens.{FewNeeds, GoOn, ListGoes, ListsGo, OpensHand, OpensStand, OpensStay}
 use Rattle.restart_law.specs.Reads.{AreLast, ReadsStay, ReadsTrue, StillReads, TellsLog}
 use Rattle.restart_claims.specs.Claims.{ClaimsHand, ClaimsStay, OpensClaimed}
 use Rattle.restart_resources.specs.Calls.{Drive}
@@ -41,6 +43,17 @@ one_log drive member a b x y =
     let same : x.contents ≡ y.contents = let both : Some x.contents ≡ Some y.contents = sym x.told ∙ y.told in cc in
     sym x.log ∙ ap (λ (z : Contents). log_of z.logs member) same ∙ y.log
 
+-- how many they are
+same_count : (xs ys : List RestartTran) → GoOn xs ys → length ys ≡ length xs
+same_count [] [] go = refl
+same_count [] (y ∷ ys) go = absurd go
+same_count (x ∷ xs) [] go = absurd go
+same_count (x ∷ xs) (y ∷ ys) go = ap suc (same_count xs ys go.1)
+
+mapped : (xs : List RestartTran) → length (map (λ (y : RestartTran). y.tran) xs) ≡ length xs
+mapped [] = refl
+mapped (x ∷ xs) = ap suc (mapped xs)
+
 pub restart_steps : Facts → RestartStepsLogged
 restart_steps facts log left w z u v h k x a e ok order spares tells told l = by h.marks.own.is_read refl
   where
@@ -50,11 +63,24 @@ restart_steps facts log left w z u v h k x a e ok order spares tells told l = by
     few_read : h.marks.own.is_read ≡ true → FewNeeds h.marks.own.records
     few_read read = l.few h.marks.own.records (l.reads.records read)
 
+    counts : ReadsTrue l.bytes k.marks → (b : Bool) → h.marks.own.is_read ≡ b → (d : Bool) → k.marks.own.is_read ≡ d → length k.marks.trans.list < 2 ^ 64
+    counts reads true was d now = (let same = same_count h.marks.trans.list k.marks.trans.list (goes.read was) in let few = l.counts in omega (arith, same, few))
+    counts reads false was true now =
+        let opened : length (map (λ (y : RestartTran). y.tran) k.marks.trans.list) ≡ length (open_trans k.marks.own.records) = ap length (goes.reads was now) in
+        let long = mapped k.marks.trans.list in
+        let few = l.brief k.marks.own.records (reads.records now) in
+        omega (arith, opened, long, few)
+    counts reads false was false now =
+        let none : length k.marks.trans.list ≡ 0 = ap (λ (t : TransState). length t.list) ((facts.opens u v h k x a e l.stands).none_open now) in
+        omega (arith, none)
+
     logged : (reads : ReadsTrue l.bytes k.marks) → (k.marks.own.is_read ≡ false → l.bytes ≡ left) → RestartLogged left z k.marks
     logged reads unread = record {
       bytes = l.bytes;
       are = l.are;
       few = l.few;
+      brief = l.brief;
+      counts = counts reads h.marks.own.is_read refl k.marks.own.is_read refl;
       stands = facts.opens u v h k x a e l.stands;
       reads = reads;
       claimed = facts.stay l.bytes w z u v h k x a e l.stands few_read order reads spares l.claimed;
@@ -111,11 +137,22 @@ handed_log s (Some kept) = by (may_adopt s)
     by true = record { own = refl }
     by false = record { own = refl }
 
+-- no more than it had
+handed_few : (s : RestartState) (o : Option KeptBy) → length (adopted_as s o).trans.list ≤ length s.trans.list
+handed_few s None = omega arith
+handed_few s (Some kept) = by (may_adopt s)
+  where
+    by : (b : Bool) → length (if b then with_trans s no_trans else s).trans.list ≤ length s.trans.list
+    by true = omega arith
+    by false = omega arith
+
 hands : HandFacts → (log : List ℕ) (w : World) (s : RestartState) → IsInOrder s → is_some (adopted_told s) ≡ true → RestartLogged log w s → RestartLogged log w (adopted_after s)
 hands facts log w s order told l = record {
   bytes = l.bytes;
   are = l.are;
   few = l.few;
+  brief = l.brief;
+  counts = (let few = handed_few s s.kept in let had = l.counts in omega (arith, few, had));
   stands = facts.opens s l.stands;
   reads = record {
     reading = λ unread. absurd (never (sym now_read ∙ unread));

@@ -22,9 +22,10 @@ use Rattle.group_logs.specs.Logs.{IsNumbered, LogGoes, OneGoes, OwnGoes}
 use Rattle.failed_logs.specs.Given.{is_restart}
 use Rattle.failed_logs.specs.Given.{LocksTied, MemberStands, RestartInHand}
 use Rattle.failed_logs.specs.Given.{LogLocked}
+use Rattle.restart_closing.specs.Closing.{ListedBelow}
 use Rattle.claimed_logs.specs.Courses.{RestartCourse}
 use Rattle.claimed_logs.specs.Events.{RestingEventsLogged}
-use Rattle.claimed_logs.specs.Logs.{MemberLogged, OneLogged, RestartLogged}
+use Rattle.claimed_logs.specs.Logs.{LogBelow, MemberLogged, OneLogged, RestartLogged}
 use Rattle.claimed_logs.specs.Steps.{RestingStays, StillRests}
 use Rattle.claimed_logs.proofs.Courses.{own_course}
 use Rattle.claimed_logs.proofs.Events.{goes_told, within}
@@ -101,6 +102,8 @@ resting_events facts c d old new at m n w t e ok told left moves l = facts.one c
           (subst (λ (y : List ℕ). IfSome m.restart (λ q. RestartCourse y q.resources.marks n.holds.marks)) (sym same) (courses_as (log_of c.logs (at + 1)) m.holds.marks n.holds.marks m.restart still.locked logged.course));
       down = λ dead. absurd (never (sym (ap is_live now_restarting) ∙ dead));
       counted = still.counted;
+      below = subst (LogBelow new.facility.counter) (sym same) kept.below;
+      names = subst (λ (x : Option RestartHeld). IfSome x (λ q. ListedBelow new.facility.counter q.resources.marks.trans.list)) (sym moves.restart) kept.names;
     })
   where
     z : World

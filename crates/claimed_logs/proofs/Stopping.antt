@@ -9,13 +9,14 @@ use Rattle.member_marks.specs.State.{MarksState}
 use Rattle.restart_marks.specs.State.{RestartState}
 use Rattle.restart_law.specs.Reads.{AreLast}
 use Rattle.restart_claims.specs.Stops.{RestsClaimed, StopsClaimed}
-use Rattle.restart_closing.specs.Closing.{OpensAlike, is_back}
+use Rattle.restart_closing.specs.Closing.{is_back}
 use Rattle.restart_closing.proofs.Logs.{AreBack, front_all, no_changes, none_names}
 use Rattle.failed_logs.specs.Logs.{LogClaimed}
-use Rattle.claimed_logs.specs.Courses.{LeavesAlike, RestartOpen}
+use Rattle.claimed_logs.specs.Courses.{LeavesAlike, RestartOpen, StandsAlike}
 use Rattle.claimed_logs.specs.Failing.{LeftClaimed, RestartsStop}
 use Rattle.claimed_logs.specs.Logs.{FrontsAlike, RestartLogged}
 use Rattle.claimed_logs.proofs.Alike.{Facts as AlikeFacts, alike_more, leaves_front}
+use Rattle.claimed_logs.proofs.Commits.{undone_last}
 
 pub record Facts : Type 0 where
   pub alike : AlikeFacts
@@ -25,7 +26,7 @@ pub record Facts : Type 0 where
 never : false ≡ true → ⊥
 never e = cc
 
-module _ (facts : Facts) (whole rest : List ℕ) (w : World) (s : RestartState) (own : MarksState) (l : RestartLogged (whole ++ rest) w s) (on : s.is_up ≡ false) (alike : OpensAlike whole) (o : RestartOpen whole rest s own) where
+module _ (facts : Facts) (whole rest : List ℕ) (w : World) (s : RestartState) (own : MarksState) (l : RestartLogged (whole ++ rest) w s) (on : s.is_up ≡ false) (alike : StandsAlike whole) (o : RestartOpen whole rest s own) where
   -- the log is as it was
   as_it_was : LeftClaimed (whole ++ rest) w s.member
   as_it_was = record { claimed = by s.own.is_read refl; leaves = record { whole = whole; rest = rest; is = refl; are = o.closes.whole; is_rest = o.closes.is_rest; alike = alike } }
@@ -36,7 +37,7 @@ module _ (facts : Facts) (whole rest : List ℕ) (w : World) (s : RestartState) 
 
   -- none of the records that wait changes a row
   fronts : FrontsAlike whole o.pend
-  fronts front left e = alike_more facts.alike whole front o.closes.whole (front_all IsAllowed front left (subst (λ (z : List LogRecord). AllByRecursion IsAllowed z) e o.closes.waits.allowed)) (none_names front back)
+  fronts front left e = alike_more facts.alike whole front o.closes.whole (front_all IsAllowed front left (subst (λ (z : List LogRecord). AllByRecursion IsAllowed z) e o.closes.waits.allowed)) (none_names front back) (undone_last front back)
       (λ start records last id spot some changed. absurd (never (sym (no_changes front back id spot) ∙ changed))) alike
     where
       back : AreBack front

@@ -2,6 +2,7 @@
 use Rattle.std.proofs.Common.{◌≡◌, ℕ, zero, suc, ◌+◌, ◌≤◌, ◌<◌, refl, sym, ◌∙◌, ap, subst, arith, Bool, true, false, inl, inr, List, [], ◌∷◌, ◌++◌, length, take, Option, Some, None, Ok}
 use Rattle.std.specs.Prelude.{◌≢◌, ◌⊎◌, ◌-◌, ◌*◌, ◌/◌, ◌%◌, ◌==◌, ◌||◌, not, if◌then◌else◌, IfSome, IsSomeAnd, is_some, map, slice_get}
 use Rattle.std.proofs.lemmas.Bool.{and_parts, cases_Bool, cases_eq, eqb-true}
+use Rattle.std.specs.List.{AllByRecursion}
 use Rattle.std.proofs.lemmas.List.{append-nil, take_at}
 use Rattle.std.proofs.lemmas.Nat.{div-add-mod'}
 use Rattle.std.proofs.lemmas.Option.{slice_get-map, slice_get_within}
@@ -22,13 +23,16 @@ use Rattle.member_intents.specs.declared.outcome.Answered.TheVariants as answere
 use Rattle.ds_model.specs.declared.log.LogRecord.{LogRecord}
 use Rattle.log_appends.specs.Rests.{IsRest, NothingIsRest}
 use Rattle.member_resources.specs.Events.{World as Resources, world_of}
+use Rattle.restart_records.specs.Trans.{TransState}
+use Rattle.restart_records.specs.declared.trans.RestartStage.TheVariants as stage
+use Rattle.restart_records.specs.declared.trans.RestartTran.{RestartTran}
 use Rattle.restart_marks.specs.Needs.{need_of}
 use Rattle.restart_marks.specs.declared.intent.RestartIntent.{RestartIntent}
 use Rattle.restart_marks.specs.State.{RestartState}
 use Rattle.restart_law.specs.Reads.{ReadsTrue}
 use Rattle.restart_law.proofs.Truth.{FitsRead, fits_read}
-use Rattle.restart_closing.specs.Closing.{HasLog, RestartCloses}
-use Rattle.restart_closing.specs.Leaving.{FailuresLeave}
+use Rattle.restart_closing.specs.Closing.{HasLog, ListedBelow, RestartCloses}
+use Rattle.restart_closing.specs.Leaving.{FailuresLeave, NoneIsLeft}
 use Rattle.restart_closing.specs.Resting.{Rests}
 use Rattle.restart_closing.proofs.Needs.{FitsSent, fits_sent}
 use Rattle.restart_resources.specs.Events as event
@@ -69,10 +73,10 @@ use Rattle.failed_logs.specs.Given.{LocksTied, MemberStands, RestartInHand, Rest
 use Rattle.failed_logs.specs.Given.{FailsAt, GroupFailsTied}
 use Rattle.claimed_logs.specs.Beginning.{PhasesLogged}
 use Rattle.claimed_logs.specs.Courses.{RestartCourse, RestartHanded, RestartOpen}
-use Rattle.claimed_logs.specs.Events.{CountsLeft, RestartEventsLogged, RestingEventsLogged, UpEventsLogged}
-use Rattle.claimed_logs.specs.Failing.{AnyBytes, HandedFailsLogged, HasFront, LeftClaimed, MovesLogged, RestartFailsLogged, RestartsStop, UpFailsLogged}
+use Rattle.claimed_logs.specs.Events.{RestartEventsLogged, RestingEventsLogged, UpEventsLogged}
+use Rattle.claimed_logs.specs.Failing.{AnyBytes, HandedBelow, HandedFailsLogged, HasFront, LeftClaimed, MovesLogged, RestartFailsLogged, RestartsStop, StopsBelow, UpFailsLogged}
 use Rattle.claimed_logs.specs.Found.{AdoptionsFound}
-use Rattle.claimed_logs.specs.Logs.{GroupFailsLogged, LogsClaimed, LogsKnow, MemberLogged, RestartLogged}
+use Rattle.claimed_logs.specs.Logs.{GroupFailsLogged, LogBelow, LogsClaimed, LogsKnow, MemberLogged, RestartLogged}
 use Rattle.claimed_logs.specs.Taken.{EventsKeep, LogsStand, Supplied}
 use Rattle.claimed_logs.proofs.Events.{within}
 use Rattle.claimed_logs.proofs.Resting.{own_log}
@@ -96,6 +100,9 @@ pub record Facts : Type 0 where
   pub handed_fails : HandedFailsLogged
   pub stop : RestartsStop
   pub leave : FailuresLeave
+  pub left : NoneIsLeft
+  pub stops_below : StopsBelow
+  pub rests_below : HandedBelow
   pub nothing : NothingIsRest
   pub begins : BeginsKnow
   pub members : MembersKnow
@@ -103,6 +110,16 @@ pub record Facts : Type 0 where
 
 never : true ≡ false → ⊥
 never e = cc
+
+-- where a restart counts no transaction as left, each is over
+counts_left : NoneIsLeft → (log : List ℕ) (w : World) (x : Option RestartHeld) (own : MarksState) → IfSome x (λ q. RestartLogged log w q.resources.marks) → IfSome x (λ q. RestartCourse log q.resources.marks own)
+    → IfSome x (λ q. q.resources.marks.trans.left ≡ 0 → AllByRecursion (λ (y : RestartTran). y.stage ≡ stage.Over) q.resources.marks.trans.list)
+counts_left law log w None own l course = tt
+counts_left law log w (Some q) own l course = λ none. by none course.goes
+  where
+    by : q.resources.marks.trans.left ≡ 0 → RestartOpen course.whole course.rest q.resources.marks own ⊎ RestartHanded course.whole course.rest q.resources.marks own → AllByRecursion (λ (y : RestartTran). y.stage ≡ stage.Over) q.resources.marks.trans.list
+    by none (inl opened) = law course.whole course.rest opened.pend q.resources.marks opened.closes l.counts none
+    by none (inr handed) = subst (λ (t : TransState). AllByRecursion (λ (y : RestartTran). y.stage ≡ stage.Over) t.list) (sym handed.rests.none) tt
 
 -- moves, behind which the logs stand
 abbrev Keeps : ℕ → CrewState → CrewState → World → Contents → Type 0
@@ -174,7 +191,7 @@ own_choices p script choice e = by p.is_idle (has_groupfail p script) (has_phase
     by true false false e = absurd (never (sym e))
     by false b c e = absurd (never (sym e))
 
-own_number : (event choice : ℕ) → event % 64 ≡ 0 → event / 64 ≡ choice → event ≡ choice * 64
+pub own_number : (event choice : ℕ) → event % 64 ≡ 0 → event / 64 ≡ choice → event ≡ choice * 64
 own_number event choice rest is =
     let whole : event / 64 * 64 + event % 64 ≡ event = div-add-mod' event 64 in
     let same : event / 64 * 64 ≡ choice * 64 = ap (λ z. z * 64) is in
@@ -324,7 +341,7 @@ module _ (facts : Facts) (old new : CrewState) (w : World) (c d : Contents) (t :
   made_as stepped made = subst (λ (z : Resources). Steps m z old.fates place stepped n (record { facility = new.facility; drive = v.drive }) new.fates) f (subst (λ (z : Resources). Steps m u old.fates place stepped n z new.fates) g made)
 
   up_goes : (stepped : Stepped) → status_of old.facility.lists.statuses m.id ≡ status.Up → is_over stepped ≡ false → Steps m u old.fates place stepped n v new.fates → MovesLogged d old new w m
-  up_goes stepped up over made = record { moves = moves; logs = facts.up c d old new at m n w t steps_at (unfailed_of stepped over) told left (given.unclosed at m n steps_at) moves l }
+  up_goes stepped up over made = record { moves = moves; logs = facts.up c d old new at m n w t steps_at (unfailed_of stepped over) told left moves l }
     where
       steps_at : StepsAt old new at m n
       steps_at = record {
@@ -370,7 +387,7 @@ module _ (facts : Facts) (old new : CrewState) (w : World) (c d : Contents) (t :
       moves = facts.rests old new at m n w t steps_at
 
   restart_goes : (stepped : Stepped) → status_of old.facility.lists.statuses m.id ≡ status.Restarting → is_over stepped ≡ false → Steps m u old.fates place stepped n v new.fates → MovesLogged d old new w m
-  restart_goes (steps.Restart s a) standing over made = record { moves = moves.moves; logs = facts.restart c d old new at m n w t steps_at told left moves (subst (λ (z : Option Member). IfSome z CountsLeft) here.had (given.left at)) (given.counted at m n steps_at logged.counted) l }
+  restart_goes (steps.Restart s a) standing over made = record { moves = moves.moves; logs = facts.restart c d old new at m n w t steps_at told left moves (counts_left facts.left (log_of c.logs (at + 1)) w m.restart m.holds.marks logged.restarts logged.course) (given.counted at m n steps_at logged.counted) l }
     where
       whole : Steps m (record { facility = old.facility; drive = u.drive }) old.fates place (steps.Restart s a) n (record { facility = new.facility; drive = v.drive }) new.fates
       whole = made_as (steps.Restart s a) made
@@ -521,17 +538,24 @@ module _ (facts : Facts) (old new : CrewState) (w : World) (c d : Contents) (t :
       reads true read = inr read
       reads false unread = inl (subst (λ (z : List ℕ). ReadsTrue z q.resources.marks) (has.unread unread) has.reads)
 
-      handed : (x : List ℕ) → IsRest x → log_of d.logs (at + 1) ≡ course.whole ++ x → RestartHanded course.whole course.rest q.resources.marks m.holds.marks → MovesLogged d old new w m
-      handed x is_rest at_d o = facts.handed_fails c d old new at m n w course.whole x t fails down any at_d is_rest course.alike o.locked l
+      handed : (x : List ℕ) → IsRest x → log_of d.logs (at + 1) ≡ course.whole ++ x → RestartHanded course.whole course.rest q.resources.marks m.holds.marks → LogBelow old.facility.counter (log_of d.logs (at + 1)) → MovesLogged d old new w m
+      handed x is_rest at_d o low = facts.handed_fails c d old new at m n w course.whole x t fails down any at_d is_rest course.alike o.locked low l
+
+      low_here : LogBelow old.facility.counter (course.whole ++ course.rest)
+      low_here = subst (LogBelow old.facility.counter) course.is logged.below
+
+      names : ListedBelow old.facility.counter q.resources.marks.trans.list
+      names = subst (λ (z : Option RestartHeld). IfSome z (λ x. ListedBelow old.facility.counter x.resources.marks.trans.list)) is logged.names
 
       by : RestartOpen course.whole course.rest q.resources.marks m.holds.marks ⊎ RestartHanded course.whole course.rest q.resources.marks m.holds.marks → MovesLogged d old new w m
       by (inl o) = facts.restart_fails c d old new at m n w t fails down any
           (subst (λ (k : ℕ). LeftClaimed (log_of d.logs (at + 1)) w k) (stands.member ∙ sym stood.id)
           (facts.stop course.whole course.rest (log_of d.logs (at + 1)) w q.resources.marks m.holds.marks (subst (λ (z : List ℕ). RestartLogged z w q.resources.marks) course.is has) stands.on course.alike o
-          (stops_at script begun choice stepped e over q is course.whole course.rest course.is (reads q.resources.marks.own.is_read refl) o))) l
+          (stops_at script begun choice stepped e over q is course.whole course.rest course.is (reads q.resources.marks.own.is_read refl) o)))
+          (facts.stops_below course.whole course.rest (log_of d.logs (at + 1)) old.facility.counter q.resources.marks m.holds.marks o low_here names (stops_at script begun choice stepped e over q is course.whole course.rest course.is (reads q.resources.marks.own.is_read refl) o)) l
       by (inr o) = elim (left_at script begun choice stepped e over q is course.whole course.rest course.is o) [
-        | inl at_d ↦ handed course.rest o.is_rest at_d o
-        | inr at_d ↦ handed [] facts.nothing (at_d ∙ sym (append-nil course.whole)) o
+        | inl at_d ↦ handed course.rest o.is_rest at_d o (subst (LogBelow old.facility.counter) (sym at_d) low_here)
+        | inr at_d ↦ handed [] facts.nothing (at_d ∙ sym (append-nil course.whole)) o (subst (LogBelow old.facility.counter) (sym at_d) (facts.rests_below course.whole course.rest old.facility.counter o.locked.whole o.is_rest low_here))
       ]
 
   -- ---- what is known of the logs
@@ -565,8 +589,8 @@ module _ (facts : Facts) (old new : CrewState) (w : World) (c d : Contents) (t :
         restart_spares s made.makes.makes.before made.makes.makes.had (fits_sent made.makes.makes.before.resources.marks made.makes.makes.happens.intent s made.makes.makes.happens.lawful))
   ]
 
-  ends_go : (script : Script) (begun choice : ℕ) (stepped : Stepped) → Comes script begun old.sizes choice m u old.fates place stepped n v new.fates → EndsHold d new
-  ends_go script begun choice stepped e = facts.members c d old new at m stepped ends given.known (goes script begun choice stepped e numbered) (spares script begun choice stepped e)
+  ends_go : new.known ≡ old.known → (script : Script) (begun choice : ℕ) (stepped : Stepped) → Comes script begun old.sizes choice m u old.fates place stepped n v new.fates → EndsHold d new
+  ends_go known script begun choice stepped e = facts.members c d old new at m stepped ends known (goes script begun choice stepped e numbered) (spares script begun choice stepped e)
 
   comes : (script : Script) (begun choice : ℕ) (stepped : Stepped) → Comes script begun old.sizes choice m u old.fates place stepped n v new.fates → MovesLogged d old new w m
   comes script begun choice stepped e = elim (cases_Bool (is_over stepped)) [
@@ -611,8 +635,8 @@ events_keep {C} {D} P directory alive contents count bytes facts old new event w
     l : LogsClaimed c before w
     l = stand.claimed
 
-    same_ends : d ≡ c → EndsHold d after
-    same_ends same = ends_stay c d before after given.known same stand.ends
+    same_ends : after.known ≡ before.known → d ≡ c → EndsHold d after
+    same_ends known same = ends_stay c d before after known same stand.ends
 
     -- ---- nothing has changed, or no log has
     still : (by : Whose) → length after.facility.locks.entries ≡ length before.facility.locks.entries → LocksTied after w → LogsClaimed c after w → d ≡ c → MovesKeep by before after w d
@@ -625,7 +649,7 @@ events_keep {C} {D} P directory alive contents count bytes facts old new event w
         (same_told contents old.disk new.disk c d (ap (λ (z : Group D C P). contents z.disk) (taken.left isnt)) told left)
 
     unmoved_ends : takes old event ≡ false → EndsHold d after
-    unmoved_ends isnt = same_ends (same_told contents old.disk new.disk c d (ap (λ (z : Group D C P). contents z.disk) (taken.left isnt)) told left)
+    unmoved_ends isnt = same_ends (ap (λ (z : Group D C P). (crew_state directory z.crew).known) (taken.left isnt)) (same_told contents old.disk new.disk c d (ap (λ (z : Group D C P). contents z.disk) (taken.left isnt)) told left)
 
     ready : takes old event ≡ true → event % 64 ≡ 0 → is_own (own_choice false old.crew.progress old.crew.script) (event / 64) ≡ true
     ready is own = subst (λ (b : Bool). is_own (own_choice b old.crew.progress old.crew.script) (event / 64) ≡ true) no_group
@@ -640,7 +664,7 @@ events_keep {C} {D} P directory alive contents count bytes facts old new event w
     phase_goes own same None h = absurd h
     phase_goes own same (Some phase) h =
         let moves : Moves OfPhase before after w = facts.phases phase before after w t h in
-        kept event OfPhase before after w d own (record { moves = moves; logs = subst (λ (z : Contents). LogsClaimed z after moves.world) (sym same) (facts.phases_logged c phase before after w t h (bytes old.disk c told) (facts.begins c phase before after h stand.ends (dead_rest before w t) few_members) moves l) }) (same_ends same)
+        kept event OfPhase before after w d own (record { moves = moves; logs = subst (λ (z : Contents). LogsClaimed z after moves.world) (sym same) (facts.phases_logged c phase before after w t h (bytes old.disk c told) (facts.begins c phase before after h stand.ends (dead_rest before w t) few_members) moves l) }) (same_ends (ap (λ (z : CrewState). z.known) h.rest) same)
 
     begins : event % 64 ≡ 0 → d ≡ c → (why : Option RunFault) → new.fault ≡ why → BeginsOrNot directory why old.crew event (length new.journal.items) new.crew → Keeps event before after w d
     begins own same None is e = phase_goes own same (slice_get before.script.phases before.begun) e
@@ -661,7 +685,7 @@ events_keep {C} {D} P directory alive contents count bytes facts old new event w
     own_goes e (inr second) own =
         let fails : GroupFails (fail_counted before) after = (e.fails (own_number event 1 own second)).1 in
         let same : d ≡ c = same_told contents old.disk new.disk c d (ap contents (e.still (no_restart_event event (event / 64) (own_number event (event / 64) own refl) (inr second)))) told left in
-        kept event OfPhase before after w d own (still OfPhase (ap (λ (z : CrewState). length z.facility.locks.entries) fails.rest) (facts.fails (fail_counted before) after w fails counted_tied) (facts.group_fails c (fail_counted before) after w fails counted_logged) same) (same_ends same)
+        kept event OfPhase before after w d own (still OfPhase (ap (λ (z : CrewState). length z.facility.locks.entries) fails.rest) (facts.fails (fail_counted before) after w fails counted_tied) (facts.group_fails c (fail_counted before) after w fails counted_logged) same) (same_ends (ap (λ (z : CrewState). z.known) fails.rest) same)
 
     -- ---- a member's
     at : ℕ
@@ -690,7 +714,7 @@ events_keep {C} {D} P directory alive contents count bytes facts old new event w
         by None y had has q = absurd q
         by (Some m) None had has q = absurd q
         by (Some m) (Some n) had has q = kept event (OfMember m.id) before after w d number (record { moves = logged_moves.moves; logs = logged_moves.logs })
-            (ends_go facts before after w c d t given l stand.ends at m n here u v (length new.journal.items) told left refl refl old.crew.script old.crew.progress.begun (event / 64) e.stepped q)
+            (ends_go facts before after w c d t given l stand.ends at m n here u v (length new.journal.items) told left refl refl e.steps.known old.crew.script old.crew.progress.begun (event / 64) e.stepped q)
           where
             stood_at : m.id ≡ at + 1
             stood_at = (subst (λ (z : Option Member). IfSome z (MemberStands before.facility (at + 1))) had (t.stands at)).id

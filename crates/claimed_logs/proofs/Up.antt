@@ -9,7 +9,7 @@ use Rattle.ds_model.specs.declared.log.LogRecord.{LogRecord}
 use Rattle.facility.specs.States.{Held as Facility}
 use Rattle.script_fates.specs.Fated.{FatesState}
 use Rattle.log_appends.specs.Appends.{AreLastFrom}
-use Rattle.log_numbers.specs.Numbers.{AreCounted, CommandsCount, CountedMore, CountedReach, CountedStay, StillCounted}
+use Rattle.log_numbers.specs.Numbers.{AreCounted, CommandsCount, CountedMore, CountedReach, CountedStay, ForwardReach, ForwardStay, RecordsAreNamed, RecordsName, StillCounted}
 use Rattle.log_rows.specs.Rows.{has_changed, is_closed}
 use Rattle.failed_logs.specs.Given.{SlotsStand}
 use Rattle.member_intents.specs.declared.outcome.Answered.{Answered}
@@ -46,9 +46,12 @@ use Rattle.failed_logs.specs.Given.{is_failure}
 use Rattle.group_logs.specs.Changes.{MadeGo}
 use Rattle.group_logs.specs.Logs.{IsNumbered, LogGoes, OneGoes}
 use Rattle.failed_logs.specs.Given.{ArePlain}
-use Rattle.claimed_logs.specs.Logs.{FrontsAlike, UpLogged}
-use Rattle.claimed_logs.specs.Steps.{PutsUnclosed, StillLogged, UpStepsLogged}
+use Rattle.claimed_logs.specs.Logs.{FrontsAlike, LogBelow, UpLogged}
+use Rattle.claimed_logs.specs.Steps.{StillLogged, UpStepsLogged}
 use Rattle.claimed_logs.proofs.Alike.{Facts as AlikeFacts, fronts_forced, fronts_more}
+use Rattle.claimed_logs.proofs.Forward.{all_below, below_after, forward_after, forward_on, puts_unclosed}
+use Rattle.claimed_logs.specs.Commits.{commits_last}
+use Rattle.claimed_logs.proofs.Commits.{event_last}
 
 pub record Facts : Type 0 where
   pub alike : AlikeFacts
@@ -56,6 +59,9 @@ pub record Facts : Type 0 where
   pub reach : CountedReach
   pub more : CountedMore
   pub commands : CommandsCount
+  pub forward : ForwardStay
+  pub reaches : ForwardReach
+  pub names : RecordsAreNamed
   pub locked : LockedReaches
   pub stay : LockedStay
   pub made : MadeGo
@@ -112,6 +118,7 @@ begun_logged log counter h place l = record {
   locked = locked_still h.marks [] None None None place log l.pend l.locked;
   counted = counted_still h.marks [] None None None place counter l.counted;
   alike = l.alike;
+  forward = record { below = l.forward.below; unclosed = l.forward.unclosed };
 }
 
 told_logged : (log : List ℕ) (counter : ℕ) (h : Held) → UpLogged log counter h.marks → UpLogged log counter (told_once h).marks
@@ -120,6 +127,7 @@ told_logged log counter h l = record {
   locked = locked_still h.marks h.marks.trans.decided h.marks.trans.offer None None h.marks.trans.place log l.pend l.locked;
   counted = counted_still h.marks h.marks.trans.decided h.marks.trans.offer None None h.marks.trans.place counter l.counted;
   alike = l.alike;
+  forward = record { below = l.forward.below; unclosed = l.forward.unclosed };
 }
 
 -- ---- its own event
@@ -133,15 +141,16 @@ rest_all : (xs ys : List LogRecord) → ArePlain (xs ++ ys) → ArePlain ys
 rest_all [] ys h = h
 rest_all (x ∷ xs) ys h = rest_all xs ys h.1
 
-fronts_after : AlikeFacts → (b : Bool) (log : List ℕ) (pend new : List LogRecord) (s t : MarksState) → LogLocked log pend s → AllByRecursion IsAllowed new → PutsUnclosed log s.log.pending t.log.pending
+fronts_after : AlikeFacts → (b : Bool) (log : List ℕ) (pend new : List LogRecord) (s t : MarksState) → LogLocked log pend s → AllByRecursion IsAllowed new → commits_last new ≡ true
+    → ((start : ℕ) (back : List LogRecord) → AreLastFrom log start back → (id : ℕ) (spot : Spot) → id ≢ 0 → has_changed new id spot ≡ true → is_closed (back ++ pend) id ≡ false)
     → LogLocked (log_after b log pend) (pend_after b pend new) t → FrontsAlike log pend → FrontsAlike (log_after b log pend) (pend_after b pend new)
-fronts_after facts true log pend new s t l allowed unclosed now alike = fronts_forced facts log pend alike
-fronts_after facts false log pend new s t l allowed unclosed now alike =
-    fronts_more facts log pend new l.whole l.allowed allowed l.plain (rest_all pend new now.plain) (unclosed pend new l.allowed allowed l.spelled now.spelled) alike
+fronts_after facts true log pend new s t l allowed ordered unclosed now alike = fronts_forced facts log pend alike
+fronts_after facts false log pend new s t l allowed ordered unclosed now alike =
+    fronts_more facts log pend new l.whole l.allowed allowed l.plain (rest_all pend new now.plain) ordered unclosed alike
 
 own_still : Facts → (log : List ℕ) (m mid : Member) (u v : World) (place : ℕ) (s : Sent) (a : Answered) → Acts m u place s a v mid → is_failure a ≡ false → TellsLog log u.drive m.holds.marks.member
-    → PutsUnclosed log m.holds.marks.log.pending mid.holds.marks.log.pending → UpLogged log u.facility.counter m.holds.marks → StillLogged v.drive u.facility.counter v.facility.counter mid.holds.marks
-own_still facts log m mid u v place s a e ok tells unclosed l = subst (λ (z : Member). StillLogged v.drive u.facility.counter v.facility.counter z.holds.marks) (sym e.member)
+    → LogBelow u.facility.counter log → UpLogged log u.facility.counter m.holds.marks → StillLogged v.drive u.facility.counter v.facility.counter mid.holds.marks
+own_still facts log m mid u v place s a e ok tells low l = subst (λ (z : Member). StillLogged v.drive u.facility.counter v.facility.counter z.holds.marks) (sym e.member)
     (record {
       log = log_after (is_done a && is_append e.intent) log l.pend;
       tells = still.tells;
@@ -150,13 +159,21 @@ own_still facts log m mid u v place s a e ok tells unclosed l = subst (λ (z : M
         locked = still.locked;
         counted = counted.counted;
         alike = fronts_after facts.alike (is_done a && is_append e.intent) log l.pend (event_records (begun e.happens.ready place).marks e.intent e.happens.plan a) m.holds.marks e.after.marks l.locked e.happens.allowed
-            (subst (λ (z : List ℕ). PutsUnclosed log m.holds.marks.log.pending z) (ap (λ (z : Member). z.holds.marks.log.pending) e.member) unclosed) still.locked l.alike;
+            (event_last (begun e.happens.ready place).marks e.intent e.happens.plan a)
+            (puts_unclosed log l.pend (event_records (begun e.happens.ready place).marks e.intent e.happens.plan a) u.facility.counter v.facility.counter m.holds.marks e.after.marks low l.forward named) still.locked l.alike;
+        forward = forward_after log l.pend (event_records (begun e.happens.ready place).marks e.intent e.happens.plan a) u.facility.counter v.facility.counter m.holds.marks e.after.marks low l.forward named facts.alike (is_done a && is_append e.intent)
+            l.locked.whole l.locked.allowed l.locked.plain counted.rises (facts.forward u v m.holds e.after e.intent place s a e.happens);
       };
       rises = counted.rises;
+      below = below_after log l.pend (event_records (begun e.happens.ready place).marks e.intent e.happens.plan a) u.facility.counter v.facility.counter m.holds.marks e.after.marks low l.forward named facts.alike (is_done a && is_append e.intent)
+          l.locked.whole l.locked.allowed l.locked.plain counted.rises;
     })
   where
     still : LogStays (is_done a && is_append e.intent) log l.pend (event_records (begun e.happens.ready place).marks e.intent e.happens.plan a) v.drive e.after.marks
     still = facts.stay log l.pend u v m.holds e.after e.intent place s a e.happens (is_unfailed a ok) l.counted.stable tells l.locked
+
+    named : RecordsName u.facility.counter v.facility.counter m.holds.marks e.after.marks (event_records (begun e.happens.ready place).marks e.intent e.happens.plan a)
+    named = facts.names u v m.holds e.after e.intent place s a e.happens l.counted
 
     counted : StillCounted u.facility v.facility e.after.marks
     counted = facts.event u v m.holds e.after e.intent place s a e.happens l.counted
@@ -187,16 +204,18 @@ told_same log member u v Goes stays tells goes = by v.contents refl (subst (λ (
     }
 
 rebuild_still : Facts → (log : List ℕ) (m mid : Member) (u v : World) (place : ℕ) (s : RebuildSent) (a : Answered) → (e : Rebuilds m u place s a v mid) → RebuildGoesOn e.reached m place mid → m.restart ≡ None → 1 ≤ m.holds.marks.member
-    → mid.holds.marks.member ≡ m.holds.marks.member → TellsLog log u.drive m.holds.marks.member → UpLogged log u.facility.counter m.holds.marks → StillLogged v.drive u.facility.counter v.facility.counter mid.holds.marks
-rebuild_still facts log m mid u v place s a e on rests one same tells l = record {
+    → mid.holds.marks.member ≡ m.holds.marks.member → TellsLog log u.drive m.holds.marks.member → LogBelow u.facility.counter log → UpLogged log u.facility.counter m.holds.marks → StillLogged v.drive u.facility.counter v.facility.counter mid.holds.marks
+rebuild_still facts log m mid u v place s a e on rests one same tells low l = record {
   log = log;
   tells = subst (λ (k : ℕ). TellsLog log v.drive k) (sym same) told;
   rises = rises;
+  below = λ start back last. all_below u.facility.counter v.facility.counter back rises (low start back last);
   logged = subst (λ (z : Member). UpLogged log v.facility.counter z.holds.marks) (sym on.member) (record {
     pend = now.pend;
     locked = facts.locked log now.pend (begun m.holds place).marks on.after.marks on.tells.0 now.locked;
     counted = facts.more u.facility.counter v.facility.counter on.after.marks rises (facts.reach u.facility.counter (begun m.holds place).marks on.after.marks on.tells.0 now.counted);
     alike = now.alike;
+    forward = forward_on log now.pend u.facility.counter v.facility.counter (begun m.holds place).marks on.after.marks rises (facts.reaches (begun m.holds place).marks on.after.marks on.tells.0) now.forward;
   });
 }
   where
@@ -214,18 +233,18 @@ rebuild_still facts log m mid u v place s a e on rests one same tells l = record
 
 -- ---- any event
 entered : (m n : Member) (drive : Drive) (before counter : ℕ) → n ≡ record m { holds = told_once m.holds } → StillLogged drive before counter m.holds.marks → StillLogged drive before counter n.holds.marks
-entered m n drive before counter e h = subst (λ (z : Member). StillLogged drive before counter z.holds.marks) (sym e) (record { log = h.log; tells = h.tells; logged = told_logged h.log counter m.holds h.logged; rises = h.rises })
+entered m n drive before counter e h = subst (λ (z : Member). StillLogged drive before counter z.holds.marks) (sym e) (record { log = h.log; tells = h.tells; logged = told_logged h.log counter m.holds h.logged; rises = h.rises; below = h.below })
 
 no_restart : (x : Option Restarting) (q : Restarting) → x ≡ None → x ≡ Some q → ⊥
 no_restart x q none some = cc
 
 pub up_steps : Facts → UpStepsLogged
-up_steps facts log m n u v f g place (steps.Sent s a) made ok rests one same tells unclosed l =
+up_steps facts log m n u v f g place (steps.Sent s a) made ok rests one same tells low l =
     entered made.mid n v.drive u.facility.counter v.facility.counter made.enters.member
-    (own_still facts log m made.mid u v place s a made.makes ok tells (subst (λ (z : List ℕ). PutsUnclosed log m.holds.marks.log.pending z) (ap (λ (z : Member). z.holds.marks.log.pending) made.enters.member) unclosed) l)
-up_steps facts log m n u v f g place (steps.Restart s a) made ok rests one same tells unclosed l = absurd (no_restart m.restart made.makes.makes.before rests made.makes.makes.had)
-up_steps facts log m n u v f g place (steps.Rebuild s a) made ok rests one same tells unclosed l =
+    (own_still facts log m made.mid u v place s a made.makes ok tells low l)
+up_steps facts log m n u v f g place (steps.Restart s a) made ok rests one same tells low l = absurd (no_restart m.restart made.makes.makes.before rests made.makes.makes.had)
+up_steps facts log m n u v f g place (steps.Rebuild s a) made ok rests one same tells low l =
     entered made.mid n v.drive u.facility.counter v.facility.counter made.enters.member
     (rebuild_still facts log m made.mid u v place s a made.makes (subst (λ (b : Bool). RebuildEnds b made.makes.reached m place made.mid) ok made.makes.ends) rests one
-    (sym (ap (λ (z : Member). z.holds.marks.member) made.enters.member) ∙ same) tells l)
-up_steps facts log m n u v f g place steps.Failed made ok rests one same tells unclosed l = absurd made.makes
+    (sym (ap (λ (z : Member). z.holds.marks.member) made.enters.member) ∙ same) tells low l)
+up_steps facts log m n u v f g place steps.Failed made ok rests one same tells low l = absurd made.makes

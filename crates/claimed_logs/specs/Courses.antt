@@ -3,6 +3,7 @@ use Rattle.std.specs.Prelude.{◌≡◌, ◌⊎◌, ℕ, true, List, [], ◌++�
 use Rattle.std.specs.List.{AllByRecursion}
 use Rattle.ds_model.specs.declared.log.LogRecord.{LogRecord}
 use Rattle.log_reader.specs.Keeping.{AreWhole}
+use Rattle.log_appends.specs.Appends.{AreLastFrom}
 use Rattle.log_appends.specs.Rests.{IsRest}
 use Rattle.member_marks.specs.State.{MarksState}
 use Rattle.restart_records.specs.declared.trans.RestartStage.TheVariants as stage
@@ -11,15 +12,21 @@ use Rattle.restart_marks.specs.State.{RestartState}
 use Rattle.restart_closing.specs.Closing.{OpensAlike, RestartCloses}
 use Rattle.restart_closing.specs.Resting.{Rests}
 use Rattle.failed_logs.specs.Given.{LogLocked}
+use Rattle.claimed_logs.specs.Commits.{commits_last}
 
--- It leaves the same open wherever reading of it may begin, and has these whole records, and then a rest that is none.
+-- It leaves the same open wherever reading of it may begin, and no transaction changes a row behind its Commit.
+pub record StandsAlike (log : List ℕ) : Type 0 where
+  pub opens : OpensAlike log
+  pub commits : (start : ℕ) (back : List LogRecord) → AreLastFrom log start back → commits_last back ≡ true
+
+-- So do these whole records of it, behind which a rest stands that is none.
 pub record LeavesAlike (log : List ℕ) : Type 0 where
   pub whole : List ℕ
   pub rest : List ℕ
   pub is : log ≡ whole ++ rest
   pub are : AreWhole whole
   pub is_rest : IsRest rest
-  pub alike : OpensAlike whole
+  pub alike : StandsAlike whole
 
 -- ---- a restart
 
@@ -41,7 +48,7 @@ pub record RestartCourse (log : List ℕ) (s : RestartState) (own : MarksState) 
   pub whole : List ℕ
   pub rest : List ℕ
   pub is : log ≡ whole ++ rest
-  pub alike : OpensAlike whole
+  pub alike : StandsAlike whole
   pub goes : RestartOpen whole rest s own ⊎ RestartHanded whole rest s own
 
 -- Nothing is left of it: its log is read, no rest follows the whole records, and each of its transactions is over.

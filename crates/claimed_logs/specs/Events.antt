@@ -15,13 +15,12 @@ use Rattle.failed_logs.specs.Given.{RestartMoves, RestartStepsAt}
 use Rattle.failed_logs.specs.Given.{RestingMoves, RestingStepsAt}
 use Rattle.failed_logs.specs.Given.{LocksTied}
 use Rattle.claimed_logs.specs.Logs.{LogsClaimed}
-use Rattle.claimed_logs.specs.Steps.{PutsUnclosed}
 
 -- one that is up
 abbrev pub UpEventsLogged : Type 0
 UpEventsLogged = (c d : Contents) (old new : CrewState) (at : ℕ) (m n : Member) (w : World)
     → LocksTied old w → (e : StepsAt old new at m n) → has_failed e.stepped ≡ false → e.drive.contents ≡ Some c → e.left.contents ≡ Some d
-    → PutsUnclosed (log_of c.logs (at + 1)) m.holds.marks.log.pending n.holds.marks.log.pending → (moves : Moves (OfMember m.id) old new w) → LogsClaimed c old w → LogsClaimed d new moves.world
+    → (moves : Moves (OfMember m.id) old new w) → LogsClaimed c old w → LogsClaimed d new moves.world
 
 -- where its restart counts no transaction as left, each is over
 abbrev pub CountsLeft : Member → Type 0

@@ -1,4 +1,5 @@
 pub mod Found
+pub mod Commits
 pub mod Courses
 pub mod Logs
 pub mod Failing
@@ -7,3 +8,4 @@ pub mod Steps
 pub mod Runs
 pub mod Events
 pub mod Taken
+pub mod Whole

@@ -14,12 +14,13 @@ use Rattle.member_intents.specs.declared.outcome.Answered.TheVariants as answere
 use Rattle.member_marks.specs.State.{MarksState}
 use Rattle.member_resources.specs.Events.{Drive, World}
 use Rattle.member_resources.specs.Held.{Held}
+use Rattle.restart_records.specs.declared.trans.RestartTran.{RestartTran}
 use Rattle.restart_marks.specs.declared.adopt.Adopted.{Adopted}
 use Rattle.restart_marks.specs.Adopt.{adopted_after}
 use Rattle.restart_marks.specs.declared.intent.RestartSent.{RestartSent}
 use Rattle.restart_marks.specs.State.{RestartState}
 use Rattle.restart_law.specs.Reads.{TellsLog as TellsRead}
-use Rattle.restart_closing.specs.Closing.{HasLog, OpensAlike}
+use Rattle.restart_closing.specs.Closing.{HasLog, ListedBelow}
 use Rattle.restart_resources.specs.Events as event
 use Rattle.restart_resources.specs.Held as restart
 use Rattle.lock_protocol.specs.Machine.{World as Locks}
@@ -34,8 +35,8 @@ use Rattle.failed_logs.specs.Given.{AdoptsLeft, Steps, Takes}
 use Rattle.failed_logs.specs.Given.{Member}
 use Rattle.failed_logs.specs.Given.{has_failed}
 use Rattle.failed_logs.specs.Given.{is_restart}
-use Rattle.claimed_logs.specs.Courses.{LeavesNothing, RestartCourse}
-use Rattle.claimed_logs.specs.Logs.{RestartLogged, UpLogged}
+use Rattle.claimed_logs.specs.Courses.{LeavesNothing, RestartCourse, StandsAlike}
+use Rattle.claimed_logs.specs.Logs.{LogBelow, RestartLogged, UpLogged}
 
 -- ---- a member that is up
 
@@ -45,18 +46,14 @@ pub record StillLogged (drive : Drive) (before counter : ℕ) (s : MarksState) :
   pub tells : TellsLog log drive s.member
   pub logged : UpLogged log counter s
   pub rises : before ≤ counter
+  pub below : LogBelow counter log
 
--- Where the log buffer had these bytes, and has those: a record that was put behind its records, and changes a row, does so for a transaction which
--- neither they close, nor the log's last records do, wherever reading may begin.
-abbrev pub PutsUnclosed : List ℕ → List ℕ → List ℕ → Type 0
-PutsUnclosed log before after = (pend new : List LogRecord) → AllByRecursion IsAllowed pend → AllByRecursion IsAllowed new → before ≡ log_bytes pend → after ≡ log_bytes (pend ++ new)
-    → (start : ℕ) (back : List LogRecord) → AreLastFrom log start back → (id : ℕ) (spot : Spot) → id ≢ 0 → has_changed new id spot ≡ true → is_closed (back ++ pend) id ≡ false
-
--- behind any event of the member, which keeps its number, with what is entered and told behind it
+-- Behind any event of the member, which keeps its number, with what is entered and told behind it. No record of its log names a transaction by a
+-- number above the counter.
 abbrev pub UpStepsLogged : Type 0
 UpStepsLogged = (log : List ℕ) (m n : Member) (u v : World) (f g : FatesState) (place : ℕ) (stepped : Stepped)
     → Steps m u f place stepped n v g → has_failed stepped ≡ false → m.restart ≡ None → 1 ≤ m.holds.marks.member → n.holds.marks.member ≡ m.holds.marks.member → TellsLog log u.drive m.holds.marks.member
-    → PutsUnclosed log m.holds.marks.log.pending n.holds.marks.log.pending → UpLogged log u.facility.counter m.holds.marks → StillLogged v.drive u.facility.counter v.facility.counter n.holds.marks
+    → LogBelow u.facility.counter log → UpLogged log u.facility.counter m.holds.marks → StillLogged v.drive u.facility.counter v.facility.counter n.holds.marks
 
 -- ---- one that restarts
 
@@ -77,15 +74,25 @@ abbrev pub CourseSteps : Type 0
 CourseSteps = (log left : List ℕ) (w : Locks) (u v : event.World) (h k : restart.Held) (x : RestartSent) (a : Answered) (s : MarksState)
     → event.Happens u h x a v k → a ≢ answered.Failed → HasLog u.drive h.marks.member log → HasLog v.drive k.marks.member left → RestartLogged log w h.marks → RestartCourse log h.marks s → RestartCourse left k.marks s
 
+-- No number by which records of its log, or its restart, name transactions is above this one still.
+pub record StillBelow (n : ℕ) (bytes : List ℕ) (list : List RestartTran) : Type 0 where
+  pub log : LogBelow n bytes
+  pub names : ListedBelow n list
+
+abbrev pub CourseBelow : Type 0
+CourseBelow = (log left : List ℕ) (w : Locks) (u v : event.World) (h k : restart.Held) (x : RestartSent) (a : Answered) (s : MarksState) (n : ℕ)
+    → event.Happens u h x a v k → a ≢ answered.Failed → HasLog u.drive h.marks.member log → HasLog v.drive k.marks.member left → RestartLogged log w h.marks → RestartCourse log h.marks s
+    → LogBelow n log → ListedBelow n h.marks.trans.list → StillBelow n left k.marks.trans.list
+
 -- where the member takes over what the restart hands over, and no slot of it has a transaction
 abbrev pub CourseHands : Type 0
 CourseHands = (log : List ℕ) (q rest : Restarting) (adopted : Option Adopted) (h k : Held)
     → IsInOrder q.resources.marks → FreeHoldNothing h.marks → NoneInSlots h.marks → Takes q adopted rest → AdoptsLeft adopted h k → RestartCourse log q.resources.marks h.marks → RestartCourse log rest.resources.marks k.marks
 
--- the rows of the log are locked, and it leaves the same open wherever reading may begin
+-- the rows of the log are locked, and it leaves the same open wherever reading may begin, as it did
 pub record LockedAlike (log : List ℕ) (s : MarksState) : Type 0 where
   pub locked : LogLocked log [] s
-  pub alike : OpensAlike log
+  pub alike : StandsAlike log
 
 -- so it is where nothing is left of the restart
 abbrev pub CourseEnds : Type 0

@@ -10,22 +10,13 @@ use Rattle.group_core.specs.declared.fault.RunFault.TheVariants as fault
 use Rattle.group_core.specs.declared.group.Group.{Group}
 use Rattle.group_core.specs.Takes.{Takes}
 use Rattle.failed_logs.specs.Given.{IsFor, Moves, Whose}
-use Rattle.failed_logs.specs.Given.{StepsAt}
 use Rattle.failed_logs.specs.Given.{RestartStepsAt}
 use Rattle.failed_logs.specs.Given.{LocksTied}
 use Rattle.group_logs.specs.Known.{EndsHold}
-use Rattle.claimed_logs.specs.Events.{CountsLeft}
 use Rattle.claimed_logs.specs.Logs.{LogsClaimed}
-use Rattle.claimed_logs.specs.Steps.{PutsUnclosed}
 
 -- What an event takes from elsewhere, where the disk holds these before it, and those behind it. No contract says it yet.
 pub record Supplied (c d : Contents) (old new : CrewState) (w : World) : Type 0 where
-  -- what members know of the ends of logs stays
-  pub known : new.known ≡ old.known
-  -- a member that is up changes no row for a transaction which its log closes
-  pub unclosed : (at : ℕ) (m n : Member) → StepsAt old new at m n → PutsUnclosed (log_of c.logs (at + 1)) m.holds.marks.log.pending n.holds.marks.log.pending
-  -- a restart that counts no transaction as left has none that isn't over
-  pub left : (at : ℕ) → IfSome (slice_get old.members at) CountsLeft
   -- no number of what a restart hands over is above the counter, or names another transaction of its member
   pub counted : (at : ℕ) (m n : Member) → RestartStepsAt old new at m n w → AreCounted old.facility.counter m.holds.marks → AreCounted new.facility.counter n.holds.marks
 

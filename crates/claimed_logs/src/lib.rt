@@ -6,12 +6,13 @@
 
 ghost use Rattle.claimed_logs.specs.Beginning.{PhasesLogged};
 ghost use Rattle.claimed_logs.specs.Events.{RestartEventsLogged, RestingEventsLogged, UpEventsLogged};
-ghost use Rattle.claimed_logs.specs.Failing.{HandedFailsLogged, RestartFailsLogged, RestartsStop, UpFailsLogged};
+ghost use Rattle.claimed_logs.specs.Failing.{HandedBelow, HandedFailsLogged, RestartFailsLogged, RestartsStop, StopsBelow, UpFailsLogged};
 ghost use Rattle.claimed_logs.specs.Found.{AdoptionsFound};
-ghost use Rattle.claimed_logs.specs.Logs.{FreshLogged, GroupFailsLogged, LogsKnow, OneLogged};
+ghost use Rattle.claimed_logs.specs.Logs.{ClosingLeaves, FreshLogged, GroupFailsLogged, LogsKnow, LogsLeave, OneLogged};
 ghost use Rattle.claimed_logs.specs.Runs.{KnowingRunsStand};
-ghost use Rattle.claimed_logs.specs.Steps.{CourseEnds, CourseHands, CourseSteps, EndsTell, HandedLogged, RestartStepsLogged, RestingStays, UpStepsLogged};
+ghost use Rattle.claimed_logs.specs.Steps.{CourseBelow, CourseEnds, CourseHands, CourseSteps, EndsTell, HandedLogged, RestartStepsLogged, RestingStays, UpStepsLogged};
 ghost use Rattle.claimed_logs.specs.Taken.{EventsKeep};
+ghost use Rattle.claimed_logs.specs.Whole.{LoggedRunsStand, StartsLogged};
 
 use adopted_claims::adopted_have_claims;
 use cache_structure::CacheFace;
@@ -24,11 +25,11 @@ use failed_logs::{
 use group_logs::{known_ends, members_log, rests_are_unknown};
 use lock_restarts::{restarts_follow, sends_lawfully};
 use log_appends::{appends_tell, rests_tell};
-use log_numbers::{commands_count, numbers_stay};
+use log_numbers::{commands_count, forward_stays, numbers_stay};
 use log_opens::opens_are_all;
 use log_rows::{both_tell, open_trans_tell};
 use restart_claims::{claims_stay, claims_tell, restarts_close_truly, stops_are_claimed};
-use restart_closing::{failures_leave, restarts_close, restarts_rest};
+use restart_closing::{closings_tell, failures_leave, restarts_close, restarts_rest};
 use restart_law::{lists_go, needs_are_few, opens_stay, reads_true};
 
 /// Where each restart in hand that has read its log knows that what it has left open has its claims, the claims are there that its member
@@ -52,11 +53,14 @@ pub fn knowing_runs<D: Disk, C: CacheFace, P>()
 }
 
 /// The logs have their claims, or their rows are locked, where no member holds anything and they leave nothing open. Then restarts
-/// know it; a failure of the group changes nothing of it, nor does an event of a member for the others.
+/// know it; a failure of the group changes nothing of it, nor does an event of a member for the others. Each log leaves the same open
+/// wherever reading of it may begin, and no transaction changes a row behind its Commit; so does a log that leaves nothing open.
 pub fn logs_claimed()
     ensures fresh { FreshLogged }
     ensures know { LogsKnow }
     ensures fails { GroupFailsLogged }
+    ensures leave { LogsLeave }
+    ensures closing { ClosingLeaves }
     ensures one { OneLogged }
 {
     appends_tell();
@@ -81,6 +85,7 @@ pub fn phases_logged()
     claims_stay();
     numbers_stay();
     restarts_close();
+    closings_tell();
     needs_are_few();
 }
 
@@ -107,7 +112,9 @@ pub fn failures_logged()
 /// So its log has its claims where a restart fails that hasn't handed over, whatever of its log buffer is on disk then, and whether it has read
 /// the log or not.
 pub fn restarts_stop()
-    ensures { RestartsStop }
+    ensures stops { RestartsStop }
+    ensures below { StopsBelow }
+    ensures rests { HandedBelow }
 {
     appends_tell();
     rests_tell();
@@ -131,6 +138,7 @@ pub fn steps_logged()
     members_log();
     logs_stay_locked();
     numbers_stay();
+    forward_stays();
     commands_count();
     opens_stay();
     reads_true();
@@ -146,6 +154,7 @@ pub fn courses_go()
     ensures steps { CourseSteps }
     ensures hands { CourseHands }
     ensures ends { CourseEnds }
+    ensures below { CourseBelow }
     ensures tell { EndsTell }
     ensures rests { RestingStays }
 {
@@ -156,6 +165,9 @@ pub fn courses_go()
     opens_are_all();
     sends_lawfully();
     restarts_close_truly();
+    closings_tell();
+    lists_go();
+    reads_true();
     restarts_rest();
     logs_taken_over();
     logs_stay_locked();
@@ -163,7 +175,8 @@ pub fn courses_go()
     commands_count();
 }
 
-/// So the logs of all members stay claimed behind an event of one that is up, if it changes no row for a transaction which its log closes; and
+/// So the logs of all members stay claimed behind an event of one that is up, if no record of its log names a transaction by a number above the
+/// counter: it changes no row for one that the log closes. And
 /// behind one of a member that restarts, in which no call of the disk fails: of the restart if it counts no transaction as left where each is
 /// over, and the numbers stay counted of what it hands over.
 pub fn events_logged()
@@ -185,6 +198,7 @@ pub fn events_logged()
     members_log();
     members_go();
     restarts_follow();
+    forward_stays();
     commands_count();
     claims_stay();
     numbers_stay();
@@ -208,7 +222,21 @@ pub fn events_keep<D: Disk, C: CacheFace, P>()
     failures_logged();
     restarts_stop();
     failures_leave();
+    closings_tell();
     rests_tell();
     known_ends();
     rests_are_unknown();
+}
+
+/// So it stands wherever events lead a group that has just started over logs that stand, none of which is refused, over a disk that tells what it
+/// holds, given what no contract says yet: beside a sound world of locks in which the logs have their claims, and the claims that members know of
+/// agree.
+pub fn logged_runs<D: Disk, C: CacheFace, P>()
+    ensures runs { LoggedRunsStand P C.directory D.alive D.contents D.faults }
+    ensures starts { StartsLogged P C.directory D.contents }
+{
+    groups_go();
+    logs_claimed();
+    knowing_runs::<D, C, P>();
+    events_keep::<D, C, P>();
 }

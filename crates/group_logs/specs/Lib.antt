@@ -1,3 +1,4 @@
 pub mod Logs
 pub mod Changes
 pub mod Known
+pub mod Given

@@ -8,7 +8,7 @@ use Rattle.std.proofs.Crossing.{crosses, Arc-send}
 use Rattle.atomic_table.proofs.shared.Seat.TheSendSync.{the_send as place_send}
 use Rattle.atomic_table.proofs.shared.Shared.TheSendSync.{the_send as table_send, the_sync as table_sync}
 use Rattle.atomic_table.proofs.send_lease.SendLease.TheSendSync.{the_send as lease_send, the_sync as lease_sync}
-use Rattle.turn_story.proofs.history.History.TheSendSync.{the_send as history_send}
+use Rattle.past_items.proofs.past.Past.TheSendSync.{the_send as history_send}
 use Rattle.turn_story.specs.declared.stepping.Stepping.{Ghosts}
 use Rattle.group_threads.specs.contracts.errand.Errand as Errand
 use Rattle.group_threads.specs.contracts.errand.Stage as Stage

@@ -69,14 +69,14 @@ rollbacks_named s id undoing = found_undoing s.trans id (place_of s.trans id) re
 rollback_first : (t : TransState) (id : ℕ) → (tran_in t (owner.Rollback id)).first ≢ 0 → (tran_in t (owner.Rollback id)).first ≡ id
 rollback_first t id some = found_first t id (place_of t id) refl some
 
-rollback_named : (t : TransState) (id x : ℕ) → x ≢ 0 → (tran_in t (owner.Rollback id)).first ≡ x → 1 ≤ named_among t.rollbacks x
+pub rollback_named : (t : TransState) (id x : ℕ) → x ≢ 0 → (tran_in t (owner.Rollback id)).first ≡ x → 1 ≤ named_among t.rollbacks x
 rollback_named t id x some e = by (place_of t id) e
   where
     by : (o : Option ℕ) → (rollback_at t o).first ≡ x → 1 ≤ named_among t.rollbacks x
     by None q = absurd (some (sym q))
     by (Some k) q = (let p = named_here (slice_index_or t.rollbacks k free_tran) x q in let r = at_named t.rollbacks k x some in omega (arith, p, r))
 
-slot_named : (t : TransState) (slot x : ℕ) → x ≢ 0 → (tran_in t (owner.Slot slot)).first ≡ x → 1 ≤ named_among t.slots x
+pub slot_named : (t : TransState) (slot x : ℕ) → x ≢ 0 → (tran_in t (owner.Slot slot)).first ≡ x → 1 ≤ named_among t.slots x
 slot_named t slot x some e = (let p = named_here (slice_index_or t.slots slot free_tran) x e in let r = at_named t.slots slot x some in omega (arith, p, r))
 
 -- ---- any two owners

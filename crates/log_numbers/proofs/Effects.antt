@@ -48,11 +48,11 @@ use Rattle.member_effects.specs.Frames.{full_at, read_after, tested_after, unreg
 use Rattle.member_effects.specs.Kept.{Kept}
 use Rattle.log_numbers.proofs.Lists.{removed_named}
 use Rattle.log_numbers.proofs.Records.{draws_change, draws_commit, draws_system, draws_undo, owner_like, slot_none}
-use Rattle.log_numbers.proofs.Stays.{Draws, Fewer, Stays, draws_after, draws_as, draws_stays, fewer_itself, stays_as, stays_fewer, stays_heads, stays_if, stays_itself, stays_locks, stays_names, stays_on, stays_same}
+use Rattle.log_numbers.proofs.Stays.{Draws, Fewer, Stays, draws_after, draws_as, draws_stays, fewer_itself, fewer_same, stays_as, stays_fewer, stays_heads, stays_if, stays_itself, stays_locks, stays_names, stays_on, stays_same}
 
 -- ---- refusals
 pub stays_offered : (s : MarksState) (o : Owner) (r : Refusal) (place : ℕ) → Stays s (offered s o r place)
-stays_offered s o r place = stays_fewer s (offered s o r place) refl (fewer_itself s.trans)
+stays_offered s o r place = stays_fewer s (offered s o r place) refl (fewer_same s.trans _ refl refl)
 
 in_the_way : (s : MarksState) (o : Owner) (n : Name) (a : CellAnswer) (event : ℕ) → Stays s (in_the_way_after s o n a event)
 in_the_way s o n cell_answer.Clean event = stays_itself s
@@ -147,7 +147,7 @@ stays_claimed s t o n m answer place e = stays_as s t (refused_after s o n answe
 
 -- ---- a lock is given up
 noted : (s : MarksState) (o : Owner) (b : Book) → Stays s (with_locks (noted_released s o) b)
-noted s o b = stays_fewer s (with_locks (noted_released s o) b) refl (owner_like s.trans o (with_released (tran_of s o)) refl)
+noted s o b = stays_fewer s (with_locks (noted_released s o) b) refl (owner_like s.trans o (with_released (tran_of s o)) refl (λ e. e))
 
 release_of : (s : MarksState) (o : Owner) → Stays s (after_release_of s o)
 release_of s (owner.Slot slot) = stays_if s _ _ (is_agent s slot) (noted s (owner.Slot slot) (after_release s.locks slot)) (stays_itself s)
@@ -163,11 +163,11 @@ stays_page_released s p _ = stays_itself s
 
 -- ---- a transaction ends
 rollback_gone : (t : TransState) (k : Option ℕ) → Fewer t (rollback_ended t k)
-rollback_gone t None id some = fewer_itself t id some
-rollback_gone t (Some k) id some = (let r = removed_named t.rollbacks k id in omega (arith, r))
+rollback_gone t None = fewer_itself t
+rollback_gone t (Some k) = record { named = λ id some. (let r = removed_named t.rollbacks k id in omega (arith, r)); forward = λ id some. omega arith }
 
 pub stays_ended_of : (s : MarksState) (o : Owner) → Stays s (after_end_of s o)
-stays_ended_of s (owner.Slot slot) = stays_if s _ _ (is_agent s slot) (stays_fewer s _ refl (λ id some. slot_none s.trans slot free_tran refl id some)) (stays_itself s)
+stays_ended_of s (owner.Slot slot) = stays_if s _ _ (is_agent s slot) (stays_fewer s _ refl (record { named = (slot_none s.trans slot free_tran refl).named; forward = (slot_none s.trans slot free_tran refl).forward })) (stays_itself s)
 stays_ended_of s (owner.Rollback id) = stays_fewer s (rollback_over s id) refl (rollback_gone s.trans (place_of s.trans id))
 
 pub stays_ended : (s : MarksState) (o : Owner) (answer : Reply) → Stays s (ended_after s o answer)

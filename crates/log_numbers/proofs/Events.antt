@@ -1,6 +1,6 @@
 -- The numbers behind any event of a member.
 use Rattle.std.proofs.Common.{◌≡◌, ℕ, ◌+◌, ◌≤◌, refl, sym, ◌∙◌, ap, subst, arith, Bool, true, false, List, [], ◌∷◌, length, Option, Some, None, Result, Ok, Err}
-use Rattle.std.specs.Prelude.{nat_lt, if◌then◌else◌}
+use Rattle.std.specs.Prelude.{◌≢◌, nat_lt, if◌then◌else◌}
 use Rattle.std.proofs.lemmas.Bool.{cond_both}
 use Rattle.ds_base.specs.declared.names.PageId.{PageId}
 use Rattle.ds_disk.specs.declared.disk.DiskError.{DiskError}
@@ -37,12 +37,12 @@ use Rattle.member_resources.specs.Lending.{lent_of, with_bytes}
 use Rattle.member_resources.specs.Prepared.{Reserves, needed, planned, setting_of, with_change_room}
 use Rattle.member_resources.specs.Settled.{Settles, cast_read, kept_of, settled, stored, unsent}
 use Rattle.needs_law.specs.Lawful.{Lawful, SendsLawfully}
-use Rattle.log_numbers.specs.Numbers.{AreCounted, CountedStay, StillCounted}
+use Rattle.log_numbers.specs.Numbers.{AreCounted, CountedStay, ForwardStay, StillCounted, forward_in}
 use Rattle.log_numbers.proofs.Commands.{commands_count}
 use Rattle.log_numbers.proofs.Effects.{DrawsBy, committed_goes, drawn_goes, goes_as, stays_claimed, stays_cycle, stays_ended, stays_ended_of, stays_filled, stays_found, stays_page_released, stays_purged, stays_read, stays_released, stays_tested, stays_unregistered, stays_written, undone_goes}
 use Rattle.log_numbers.proofs.Locals.{reach_stays}
 use Rattle.log_numbers.proofs.Records.{slot_like, stays_append}
-use Rattle.log_numbers.proofs.Stays.{Stays, counted_more, fewer_itself, stays_as, stays_fewer, stays_itself, stays_on}
+use Rattle.log_numbers.proofs.Stays.{Draws, Stays, counted_more, fewer_same, stays_as, stays_fewer, stays_itself, stays_on}
 use Rattle.ds_disk.specs.declared.disk.DiskError.TheVariants.{Failed}
 use Rattle.member_needs.specs.Plans.{intent_plan}
 use Rattle.member_needs.specs.declared.needs.Setting.{Setting}
@@ -85,63 +85,75 @@ settles_go h k (intent.CastoutRead page) p answer cells place e = marks_as h k (
 settles_go h k i p answer cells place e = marks_as h k (settled h i p answer cells place) e (stays_itself h.marks)
 
 -- whatever was looked for: a look for a cycle draws nothing
-settled_go : (h k : Held) (i : Intent) (p : Plan) (waits : List Wait) (answer : Reply) (cells : List Cell) (place : ℕ) (said : Told) → SettlesAs (waits_in i) h i p waits cells answer place said k → GoesBy (draws_in i) answer h.marks k.marks
+pub settled_go : (h k : Held) (i : Intent) (p : Plan) (waits : List Wait) (answer : Reply) (cells : List Cell) (place : ℕ) (said : Told) → SettlesAs (waits_in i) h i p waits cells answer place said k → GoesBy (draws_in i) answer h.marks k.marks
 settled_go h k (intent.Waits slots) p waits answer cells place said e = stays_cycle h.marks k.marks waits slots place said e.0
 settled_go h k i p waits answer cells place said e = settles_go h k i p answer cells place e.1
 
 -- ---- what a command draws
-counted_draw : (o : Option ℕ) (c : ℕ) (s t : MarksState) → DrawsBy (draw_reply o c) s t → AreCounted c s → AreCounted (drawn_to o c) t
-counted_draw None c s t goes k = by (nat_lt c limit) goes
+
+-- from the one counter to the other
+pub record Goes (c d : ℕ) (s t : MarksState) : Type 0 where
+  pub counted : AreCounted c s → AreCounted d t
+  pub forward : (id : ℕ) → id ≢ 0 → id ≤ c → forward_in t.trans id ≤ forward_in s.trans id
+
+goes_drawn : (c : ℕ) (s t : MarksState) → Draws (c + 1) s t → Goes c (c + 1) s t
+goes_drawn c s t draws = record { counted = λ k. draws.counted c refl k; forward = λ id some low. draws.forward id some (λ e. absurd (let q = e in omega (arith, low, q))) }
+
+goes_stays : (c d : ℕ) (s t : MarksState) → c ≤ d → Stays s t → Goes c d s t
+goes_stays c d s t le stays = record { counted = λ k. counted_more c d t le (stays.counted c k); forward = λ id some low. stays.forward id some }
+
+itself : (n : ℕ) → n ≤ n
+itself n = omega arith
+
+goes_draw : (o : Option ℕ) (c : ℕ) (s t : MarksState) → DrawsBy (draw_reply o c) s t → Goes c (drawn_to o c) s t
+goes_draw None c s t goes = by (nat_lt c limit) goes
   where
-    by : (b : Bool) → DrawsBy (if b then reply.Drawn (c + 1) else reply.LrsnEnd c) s t → AreCounted (if b then c + 1 else c) t
-    by true g = g c refl k
-    by false g = g c k
-counted_draw (Some index) c s t goes k = goes c k
+    by : (b : Bool) → DrawsBy (if b then reply.Drawn (c + 1) else reply.LrsnEnd c) s t → Goes c (if b then c + 1 else c) s t
+    by true g = goes_drawn c s t g
+    by false g = goes_stays c c s t (itself c) g
+goes_draw (Some index) c s t goes = goes_stays c c s t (itself c) goes
 
-counted_undo : (o : Option ℕ) (c : ℕ) (s t : MarksState) → DrawsBy (drawn_reply o c) s t → AreCounted c s → AreCounted (counter_after o c) t
-counted_undo None c s t goes k = goes c refl k
-counted_undo (Some index) c s t goes k = goes c k
+goes_undo : (o : Option ℕ) (c : ℕ) (s t : MarksState) → DrawsBy (drawn_reply o c) s t → Goes c (counter_after o c) s t
+goes_undo None c s t goes = goes_drawn c s t goes
+goes_undo (Some index) c s t goes = goes_stays c c s t (itself c) goes
 
-same_command : (c d : Command) → sent.Command c ≡ sent.Command d → c ≡ d
+pub same_command : (c d : Command) → sent.Command c ≡ sent.Command d → c ≡ d
 same_command c d e = cc
 
-draw_counts : (w v : Facility) (m : ℕ) (c : Command) (indexes : Indexes) (lent left : List ℕ) (answer : Reply) (s t : MarksState) → sent.Command c ≡ sent.Command (command.Draw indexes)
-    → Executes w m c lent answer v left → DrawsBy answer s t → AreCounted w.counter s → AreCounted v.counter t
-draw_counts w v m c indexes lent left answer s t is e goes k =
+draw_goes : (w v : Facility) (m : ℕ) (c : Command) (indexes : Indexes) (lent left : List ℕ) (answer : Reply) (s t : MarksState) → sent.Command c ≡ sent.Command (command.Draw indexes)
+    → Executes w m c lent answer v left → DrawsBy answer s t → Goes w.counter v.counter s t
+draw_goes w v m c indexes lent left answer s t is e goes =
     let draws = subst (λ (z : Command). Executes w m z lent answer v left) (same_command c (command.Draw indexes) is) e in
-    subst (λ (z : Facility). AreCounted z.counter t) (sym draws.0.1)
-    (counted_draw (first_stale w.directory m (given indexes)) w.counter s t (subst (λ (z : Reply). DrawsBy z s t) draws.0.0 goes) k)
+    subst (λ (z : Facility). Goes w.counter z.counter s t) (sym draws.0.1)
+    (goes_draw (first_stale w.directory m (given indexes)) w.counter s t (subst (λ (z : Reply). DrawsBy z s t) draws.0.0 goes))
 
-undo_counts : (w v : Facility) (m : ℕ) (c : Command) (indexes : Indexes) (lent left : List ℕ) (answer : Reply) (s t : MarksState) → sent.Command c ≡ sent.Command (command.DrawUndo indexes)
-    → Executes w m c lent answer v left → DrawsBy answer s t → AreCounted w.counter s → AreCounted v.counter t
-undo_counts w v m c indexes lent left answer s t is e goes k =
+undo_goes : (w v : Facility) (m : ℕ) (c : Command) (indexes : Indexes) (lent left : List ℕ) (answer : Reply) (s t : MarksState) → sent.Command c ≡ sent.Command (command.DrawUndo indexes)
+    → Executes w m c lent answer v left → DrawsBy answer s t → Goes w.counter v.counter s t
+undo_goes w v m c indexes lent left answer s t is e goes =
     let draws = subst (λ (z : Command). Executes w m z lent answer v left) (same_command c (command.DrawUndo indexes) is) e in
-    subst (λ (z : Facility). AreCounted z.counter t) (sym draws.0.1)
-    (counted_undo (first_stale w.directory m (given indexes)) w.counter s t (subst (λ (z : Reply). DrawsBy z s t) draws.0.0 goes) k)
+    subst (λ (z : Facility). Goes w.counter z.counter s t) (sym draws.0.1)
+    (goes_undo (first_stale w.directory m (given indexes)) w.counter s t (subst (λ (z : Reply). DrawsBy z s t) draws.0.0 goes))
 
-stays_counts : (w v : Facility) (m : ℕ) (c : Command) (lent left : List ℕ) (answer : Reply) (s t : MarksState) → Executes w m c lent answer v left → Stays s t → AreCounted w.counter s → AreCounted v.counter t
-stays_counts w v m c lent left answer s t e stays k = counted_more w.counter v.counter t (commands_count w v m c lent left answer e) (stays w.counter k)
-
-command_counts : (b : MarksState) (pages : List (List ℕ)) (set : Setting) (i : Intent) (c : Command) (w v : Facility) (m : ℕ) (lent left : List ℕ) (answer : Reply) (s t : MarksState) → Lawful b pages set i (sent.Command c)
-    → Executes w m c lent answer v left → GoesBy (draws_in i) answer s t → AreCounted w.counter s → AreCounted v.counter t
-command_counts b pages set (intent.Change slot action frames) c w v m lent left answer s t lawful e goes k = draw_counts w v m c (indexes_of frames) lent left answer s t lawful.is e goes k
-command_counts b pages set (intent.Undo o at) c w v m lent left answer s t lawful e goes k = undo_counts w v m c (record { count = 1; at = at ∷ 0 ∷ 0 ∷ [] }) lent left answer s t lawful.is e goes k
-command_counts b pages set (intent.Commit slot) c w v m lent left answer s t lawful e goes k = draw_counts w v m c (record { count = 0; at = 0 ∷ 0 ∷ 0 ∷ [] }) lent left answer s t lawful.is e goes k
-command_counts b pages set _ c w v m lent left answer s t lawful e goes k = stays_counts w v m c lent left answer s t e goes k
+command_goes : (b : MarksState) (pages : List (List ℕ)) (set : Setting) (i : Intent) (c : Command) (w v : Facility) (m : ℕ) (lent left : List ℕ) (answer : Reply) (s t : MarksState) → Lawful b pages set i (sent.Command c)
+    → Executes w m c lent answer v left → GoesBy (draws_in i) answer s t → Goes w.counter v.counter s t
+command_goes b pages set (intent.Change slot action frames) c w v m lent left answer s t lawful e goes = draw_goes w v m c (indexes_of frames) lent left answer s t lawful.is e goes
+command_goes b pages set (intent.Undo o at) c w v m lent left answer s t lawful e goes = undo_goes w v m c (record { count = 1; at = at ∷ 0 ∷ 0 ∷ [] }) lent left answer s t lawful.is e goes
+command_goes b pages set (intent.Commit slot) c w v m lent left answer s t lawful e goes = draw_goes w v m c (record { count = 0; at = 0 ∷ 0 ∷ 0 ∷ [] }) lent left answer s t lawful.is e goes
+command_goes b pages set _ c w v m lent left answer s t lawful e goes = goes_stays w.counter v.counter s t (commands_count w v m c lent left answer e) goes
 
 -- ---- the bytes that a command is lent
-lent_same : (h k : Held) (l : Lent) (page : List ℕ) → k ≡ with_bytes h l page → k.marks ≡ h.marks
+pub lent_same : (h k : Held) (l : Lent) (page : List ℕ) → k ≡ with_bytes h l page → k.marks ≡ h.marks
 lent_same h k (lent.Frame at) page e = ap (λ (z : Held). z.marks) e
 lent_same h k lent.Buffer page e = ap (λ (z : Held). z.marks) e
 lent_same h k lent.Spare page e = ap (λ (z : Held). z.marks) e
 
-ran_counts : (b : MarksState) (pages : List (List ℕ)) (set : Setting) (w v : Facility) (h k : Held) (i : Intent) (c : Command) (p : Plan) (place : ℕ) (a : Answered) (said : Told) → Lawful b pages set i (sent.Command c)
-    → RunsCommand w h i c p place a said v k → AreCounted w.counter h.marks → AreCounted v.counter k.marks
-ran_counts b pages set w v h k i c p place a said lawful r counted =
+ran_goes : (b : MarksState) (pages : List (List ℕ)) (set : Setting) (w v : Facility) (h k : Held) (i : Intent) (c : Command) (p : Plan) (place : ℕ) (a : Answered) (said : Told) → Lawful b pages set i (sent.Command c)
+    → RunsCommand w h i c p place a said v k → Goes w.counter v.counter h.marks k.marks
+ran_goes b pages set w v h k i c p place a said lawful r =
     let same = lent_same h r.after (lent_of h c) _ r.gives.executed.back in
-    command_counts b pages set i c w v h.marks.member _ _ r.answer r.after.marks k.marks lawful r.gives.executed.executes
-    (settled_go r.after k i p v.lists.waits r.answer (cells_for v.lists.cells r.after.marks.member c) place said r.settles)
-    (subst (λ (z : MarksState). AreCounted w.counter z) (sym same) counted)
+    subst (λ (z : MarksState). Goes w.counter v.counter z k.marks) same
+    (command_goes b pages set i c w v h.marks.member _ _ r.answer r.after.marks k.marks lawful r.gives.executed.executes
+    (settled_go r.after k i p v.lists.waits r.answer (cells_for v.lists.cells r.after.marks.member c) place said r.settles))
 
 ran_rises : (w v : Facility) (h k : Held) (i : Intent) (c : Command) (p : Plan) (place : ℕ) (a : Answered) (said : Told) → RunsCommand w h i c p place a said v k → w.counter ≤ v.counter
 ran_rises w v h k i c p place a said r = commands_count w v h.marks.member c _ _ r.answer r.gives.executed.executes
@@ -180,29 +192,30 @@ called_stays : (w v : Drive) (h k : Held) (i : Intent) (s : Sent) (a : Answered)
 called_stays w v h k i s a said r = subst (λ (z : MarksState). Stays z k.marks) (call_same w v h r.after i s r.done r.calls) (stores_stay r.after k i r.done a said r.stores)
 
 -- ---- the event, by what is sent
-same_counter : (w v : Facility) (s : MarksState) → v ≡ w → AreCounted w.counter s → StillCounted w v s
-same_counter w v s e k = subst (λ (z : Facility). StillCounted w z s) (sym e) (record { rises = itself w.counter; counted = k })
-  where
-    itself : (n : ℕ) → n ≤ n
-    itself n = omega arith
+pub record RunsOn (w v : Facility) (s t : MarksState) : Type 0 where
+  pub rises : w.counter ≤ v.counter
+  pub goes : Goes w.counter v.counter s t
 
-runs_count : (b : MarksState) (pages : List (List ℕ)) (set : Setting) (w v : World) (h k : Held) (i : Intent) (s : Sent) (p : Plan) (place : ℕ) (a : Answered) (said : Told) → Lawful b pages set i s
-    → Runs w h i s p place a said v k → AreCounted w.facility.counter h.marks → StillCounted w.facility v.facility k.marks
-runs_count b pages set w v h k i sent.None p place a said lawful r c = same_counter w.facility v.facility k.marks (ap (λ (z : World). z.facility) r.world) (marks_as h k (unsent h i) r.held (unsent_stays h i) w.facility.counter c)
-runs_count b pages set w v h k i (sent.Command x) p place a said lawful r c = record { rises = ran_rises w.facility v.facility h k i x p place a said r.0; counted = ran_counts b pages set w.facility v.facility h k i x p place a said lawful r.0 c }
-runs_count b pages set w v h k i sent.AppendLog p place a said lawful r c = same_counter w.facility v.facility k.marks r.1 (called_stays w.drive v.drive h k i sent.AppendLog a said r.0 w.facility.counter c)
-runs_count b pages set w v h k i (sent.ReadPage page) p place a said lawful r c = same_counter w.facility v.facility k.marks r.1 (called_stays w.drive v.drive h k i (sent.ReadPage page) a said r.0 w.facility.counter c)
-runs_count b pages set w v h k i (sent.WritePage page) p place a said lawful r c = same_counter w.facility v.facility k.marks r.1 (called_stays w.drive v.drive h k i (sent.WritePage page) a said r.0 w.facility.counter c)
+same_counter : (w v : Facility) (s t : MarksState) → v ≡ w → Stays s t → RunsOn w v s t
+same_counter w v s t e stays = subst (λ (z : Facility). RunsOn w z s t) (sym e) (record { rises = itself w.counter; goes = goes_stays w.counter w.counter s t (itself w.counter) stays })
+
+runs_on : (b : MarksState) (pages : List (List ℕ)) (set : Setting) (w v : World) (h k : Held) (i : Intent) (s : Sent) (p : Plan) (place : ℕ) (a : Answered) (said : Told) → Lawful b pages set i s
+    → Runs w h i s p place a said v k → RunsOn w.facility v.facility h.marks k.marks
+runs_on b pages set w v h k i sent.None p place a said lawful r = same_counter w.facility v.facility h.marks k.marks (ap (λ (z : World). z.facility) r.world) (marks_as h k (unsent h i) r.held (unsent_stays h i))
+runs_on b pages set w v h k i (sent.Command x) p place a said lawful r = record { rises = ran_rises w.facility v.facility h k i x p place a said r.0; goes = ran_goes b pages set w.facility v.facility h k i x p place a said lawful r.0 }
+runs_on b pages set w v h k i sent.AppendLog p place a said lawful r = same_counter w.facility v.facility h.marks k.marks r.1 (called_stays w.drive v.drive h k i sent.AppendLog a said r.0)
+runs_on b pages set w v h k i (sent.ReadPage page) p place a said lawful r = same_counter w.facility v.facility h.marks k.marks r.1 (called_stays w.drive v.drive h k i (sent.ReadPage page) a said r.0)
+runs_on b pages set w v h k i (sent.WritePage page) p place a said lawful r = same_counter w.facility v.facility h.marks k.marks r.1 (called_stays w.drive v.drive h k i (sent.WritePage page) a said r.0)
 
 -- ---- the memory that is taken, and the begin
 ready_stays : (h ready : Held) (i : Intent) → Reserves i h ready → Stays h.marks ready.marks
-ready_stays h ready (intent.Obtain o n m) e = marks_as h ready (with_spare h ready.marks.locks.spare) e.2 (stays_fewer h.marks (with_spare h ready.marks.locks.spare).marks refl (fewer_itself h.marks.trans))
-ready_stays h ready (intent.Grant o n m) e = marks_as h ready (with_spare h ready.marks.locks.spare) e.2 (stays_fewer h.marks (with_spare h ready.marks.locks.spare).marks refl (fewer_itself h.marks.trans))
-ready_stays h ready (intent.Change slot action frames) e = marks_as h ready (with_change_room h slot) e (stays_fewer h.marks (with_change_room h slot).marks refl (slot_like h.marks.trans slot (with_room (slot_tran h.marks slot)) refl))
+ready_stays h ready (intent.Obtain o n m) e = marks_as h ready (with_spare h ready.marks.locks.spare) e.2 (stays_fewer h.marks (with_spare h ready.marks.locks.spare).marks refl (fewer_same h.marks.trans _ refl refl))
+ready_stays h ready (intent.Grant o n m) e = marks_as h ready (with_spare h ready.marks.locks.spare) e.2 (stays_fewer h.marks (with_spare h ready.marks.locks.spare).marks refl (fewer_same h.marks.trans _ refl refl))
+ready_stays h ready (intent.Change slot action frames) e = marks_as h ready (with_change_room h slot) e (stays_fewer h.marks (with_change_room h slot).marks refl (slot_like h.marks.trans slot (with_room (slot_tran h.marks slot)) refl (λ e. e)))
 ready_stays h ready _ e = marks_as h ready h e (stays_itself h.marks)
 
 begun_stays : (h : Held) (place : ℕ) → Stays h.marks (begun h place).marks
-begun_stays h place = stays_fewer h.marks (begun h place).marks refl (fewer_itself h.marks.trans)
+begun_stays h place = stays_fewer h.marks (begun h place).marks refl (fewer_same h.marks.trans _ refl refl)
 
 -- ---- the whole event
 abbrev sent_in : Result Prepared Test → Result Sent Test
@@ -214,10 +227,31 @@ needs_sent (Err test) y s p e = absurd cc
 needs_sent (Ok t) (Err test) s p e = absurd cc
 needs_sent (Ok t) (Ok q) s p e = ap sent_in e
 
+module _ (sends : SendsLawfully) (w v : World) (h k : Held) (i : Intent) (place : ℕ) (s : Sent) (a : Answered) (happens : Happens w h i place s a v k) where
+  abbrev pub setting : Setting
+  setting = setting_of h (holder_in w.facility h.cast) place
+
+  pub sent_lawfully : Lawful h.marks h.pages setting i s
+  sent_lawfully = sends h.marks h.pages setting i s (needs_sent (need_of h.marks h.pages setting i) (intent_plan h.marks h.pages h.limit i) s happens.plan happens.lawful)
+
+  -- up to where it is sent, by what is sent, and then by local moves
+  pub stays_ready : Stays h.marks (begun happens.ready place).marks
+  stays_ready = stays_on h.marks happens.ready.marks (begun happens.ready place).marks (ready_stays h happens.ready i happens.reserves) (begun_stays happens.ready place)
+
+  pub runs_between : RunsOn w.facility v.facility (begun happens.ready place).marks happens.after.marks
+  runs_between = runs_on h.marks h.pages setting w v (begun happens.ready place) happens.after i s happens.plan place a happens.said sent_lawfully happens.runs
+
+  pub stays_local : Stays happens.after.marks k.marks
+  stays_local = reach_stays happens.after.marks k.marks happens.ends.0
+
 pub counted_stay : SendsLawfully → CountedStay
 counted_stay sends w v h k i place s a happens c =
-    let set : Setting = setting_of h (holder_in w.facility h.cast) place in
-    let lawful : Lawful h.marks h.pages set i s = sends h.marks h.pages set i s (needs_sent (need_of h.marks h.pages set i) (intent_plan h.marks h.pages h.limit i) s happens.plan happens.lawful) in
-    let first : AreCounted w.facility.counter (begun happens.ready place).marks = begun_stays happens.ready place w.facility.counter (ready_stays h happens.ready i happens.reserves w.facility.counter c) in
-    let after : StillCounted w.facility v.facility happens.after.marks = runs_count h.marks h.pages set w v (begun happens.ready place) happens.after i s happens.plan place a happens.said lawful happens.runs first in
-    record { rises = after.rises; counted = reach_stays happens.after.marks k.marks happens.ends.0 v.facility.counter after.counted }
+    let on = runs_between sends w v h k i place s a happens in
+    record { rises = on.rises; counted = (stays_local sends w v h k i place s a happens).counted v.facility.counter (on.goes.counted ((stays_ready sends w v h k i place s a happens).counted w.facility.counter c)) }
+
+pub forward_stay : SendsLawfully → ForwardStay
+forward_stay sends w v h k i place s a happens id some low =
+    let p = (stays_ready sends w v h k i place s a happens).forward id some in
+    let q = (runs_between sends w v h k i place s a happens).goes.forward id some low in
+    let r = (stays_local sends w v h k i place s a happens).forward id some in
+    omega (arith, p, q, r)

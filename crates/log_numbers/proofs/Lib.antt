@@ -6,3 +6,4 @@ pub mod Locals
 pub mod Commands
 pub mod Events
 pub mod Apart
+pub mod Naming

@@ -1,9 +1,9 @@
 -- How many of some transactions have a name, as one of them changes.
 use Rattle.std.proofs.Common.{◌≡◌, ℕ, zero, suc, ◌+◌, ◌≤◌, refl, sym, ◌∙◌, ap, subst, arith, Bool, true, false, List, [], ◌∷◌, ◌++◌}
-use Rattle.std.specs.Prelude.{◌≢◌, ◌==◌, remove, replicate, slice_index_or, slice_set}
-use Rattle.std.proofs.lemmas.Bool.{ne_eqb}
-use Rattle.member_trans.specs.Trans.{TranState, free_tran}
-use Rattle.log_numbers.specs.Numbers.{named_among, one_if}
+use Rattle.std.specs.Prelude.{◌≢◌, ◌==◌, ◌&&◌, remove, replicate, slice_index_or, slice_set}
+use Rattle.std.proofs.lemmas.Bool.{eq-eqb, ne_eqb}
+use Rattle.member_trans.specs.Trans.{TranState, free_tran, is_forward}
+use Rattle.log_numbers.specs.Numbers.{forward_among, named_among, one_if}
 
 -- a number that names none
 pub none_named : (id : ℕ) → id ≢ 0 → one_if (0 == id) ≡ 0
@@ -35,3 +35,58 @@ pub at_named : (ts : List TranState) (slot id : ℕ) → id ≢ 0 → one_if ((s
 at_named [] slot id some = (let e = none_named id some in omega (arith, e))
 at_named (t ∷ ts) zero id some = omega arith
 at_named (t ∷ ts) (suc slot) id some = (let rest = at_named ts slot id some in omega (arith, rest))
+
+-- ---- how many go forward
+
+-- one that keeps its name, and goes forward only where it did
+pub like_forward : (x t : TranState) (id : ℕ) → x.first ≡ t.first → (is_forward x.stage ≡ true → is_forward t.stage ≡ true) → one_if (is_forward x.stage && (x.first == id)) ≤ one_if (is_forward t.stage && (t.first == id))
+like_forward x t id same on = by (is_forward x.stage) refl
+  where
+    by : (b : Bool) → is_forward x.stage ≡ b → one_if (b && (x.first == id)) ≤ one_if (is_forward t.stage && (t.first == id))
+    by true goes =
+        let q : one_if (is_forward t.stage && (t.first == id)) ≡ one_if (t.first == id) = ap (λ (b : Bool). one_if (b && (t.first == id))) (on goes) in
+        let p : one_if (x.first == id) ≡ one_if (t.first == id) = ap (λ (z : ℕ). one_if (z == id)) same in
+        omega (arith, p, q)
+    by false rests = omega arith
+
+pub none_forward : (t : TranState) (id : ℕ) → t.first ≡ 0 → id ≢ 0 → one_if (is_forward t.stage && (t.first == id)) ≡ 0
+none_forward t id none some = ap (λ (z : ℕ). one_if (is_forward t.stage && (z == id))) none ∙ by (is_forward t.stage)
+  where
+    by : (b : Bool) → one_if (b && (0 == id)) ≡ 0
+    by true = none_named id some
+    by false = refl
+
+pub set_forward : (ts : List TranState) (slot : ℕ) (x : TranState) (id : ℕ)
+    → forward_among (slice_set ts slot x) id + one_if (is_forward (slice_index_or ts slot free_tran).stage && ((slice_index_or ts slot free_tran).first == id)) ≤ forward_among ts id + one_if (is_forward x.stage && (x.first == id))
+set_forward [] slot x id = omega arith
+set_forward (t ∷ ts) zero x id = omega arith
+set_forward (t ∷ ts) (suc slot) x id = (let rest = set_forward ts slot x id in omega (arith, rest))
+
+one_named : (t : TranState) (id : ℕ) → one_if (is_forward t.stage && (t.first == id)) ≤ one_if (t.first == id)
+one_named t id = by (is_forward t.stage)
+  where
+    by : (b : Bool) → one_if (b && (t.first == id)) ≤ one_if (t.first == id)
+    by true = omega arith
+    by false = omega arith
+
+pub forward_named : (ts : List TranState) (id : ℕ) → forward_among ts id ≤ named_among ts id
+forward_named [] id = omega arith
+forward_named (t ∷ ts) id = (let one = one_named t id in let rest = forward_named ts id in omega (arith, one, rest))
+
+-- one that is there, and doesn't go forward, counts beside those that do
+pub apart_named : (ts : List TranState) (slot id : ℕ) → id ≢ 0 → is_forward (slice_index_or ts slot free_tran).stage ≡ false
+    → forward_among ts id + one_if ((slice_index_or ts slot free_tran).first == id) ≤ named_among ts id
+apart_named [] slot id some rests = (let e = none_named id some in omega (arith, e))
+apart_named (t ∷ ts) zero id some rests =
+    let none : one_if (is_forward t.stage && (t.first == id)) ≡ 0 = ap (λ (b : Bool). one_if (b && (t.first == id))) rests in
+    let rest = forward_named ts id in
+    omega (arith, none, rest)
+apart_named (t ∷ ts) (suc slot) id some rests = (let one = one_named t id in let rest = apart_named ts slot id some rests in omega (arith, one, rest))
+
+-- and one that does
+pub at_forward : (ts : List TranState) (slot id : ℕ) → is_forward (slice_index_or ts slot free_tran).stage ≡ true → (slice_index_or ts slot free_tran).first ≡ id → 1 ≤ forward_among ts id
+at_forward [] slot id goes named = absurd cc
+at_forward (t ∷ ts) zero id goes named =
+    let one : one_if (is_forward t.stage && (t.first == id)) ≡ 1 = ap (λ (b : Bool). one_if (b && (t.first == id))) goes ∙ ap one_if (eq-eqb t.first id named) in
+    omega (arith, one)
+at_forward (t ∷ ts) (suc slot) id goes named = (let rest = at_forward ts slot id goes named in omega (arith, rest))

@@ -25,15 +25,15 @@ use Rattle.member_marks.specs.Frames.{may_pin, may_unpin, placed_at}
 use Rattle.member_marks.specs.Local.{Local, Claim, Begin, Refuse, Abort, RefuseForMemory, Place, Pin, Unpin, Postpone, WaitFor, Reaches, given_with, entered_at_home, tried_as, with_lock_room, begun_with, after_begin, moved, all_moved}
 use Rattle.member_marks.specs.Rollbacks.{after_adopt, can_postpone, may_adopt, postponed_for_member, retainer, waiting_for, with_postponed, with_rollback}
 use Rattle.member_resources.specs.Held.{Held, IsNew}
-use Rattle.log_numbers.specs.Numbers.{AreCounted, CountedAdopt, CountedBegin, CountedReach, named_in, one_if}
+use Rattle.log_numbers.specs.Numbers.{AreCounted, CountedAdopt, CountedBegin, CountedReach, ForwardReach, named_in, one_if}
 use Rattle.log_numbers.proofs.Effects.{stays_offered}
-use Rattle.log_numbers.proofs.Lists.{free_named, none_named, push_named, set_named}
+use Rattle.log_numbers.proofs.Lists.{free_named, none_named, push_named, set_forward, set_named}
 use Rattle.log_numbers.proofs.Records.{slot_like, slot_none}
-use Rattle.log_numbers.proofs.Stays.{Fewer, Stays, above_some, fewer_if, fewer_itself, stays_as, stays_fewer, stays_heads, stays_if, stays_itself, stays_locks, stays_on, stays_trans}
+use Rattle.log_numbers.proofs.Stays.{Fewer, Stays, above_some, fewer_if, fewer_itself, fewer_same, stays_as, stays_fewer, stays_heads, stays_if, stays_itself, stays_locks, stays_on, stays_trans}
 
 -- ---- a lock is tried at home
 at_home : (s : MarksState) (slot : ℕ) (n : Name) (m : Mode) (event : ℕ) (has_memory : Bool) (spare : ℕ) → Stays s (entered_at_home s slot n m event has_memory spare)
-at_home s slot n m event has_memory spare = stays_if s _ _ has_memory (stays_locks s (given_with s.locks spare slot n m)) (stays_fewer s (offered_memory (with_locks s (record s.locks { spare = spare })) slot event) refl (fewer_itself s.trans))
+at_home s slot n m event has_memory spare = stays_if s _ _ has_memory (stays_locks s (given_with s.locks spare slot n m)) (stays_fewer s (offered_memory (with_locks s (record s.locks { spare = spare })) slot event) refl (fewer_same s.trans _ refl refl))
 
 tried : (s : MarksState) (slot : ℕ) (n : Name) (m : Mode) (event : ℕ) (has_memory : Bool) (spare : ℕ) (a : Ask) → Stays s (tried_as s slot n m event has_memory spare a)
 tried s slot n m event has_memory spare ask.Have = stays_itself s
@@ -44,7 +44,7 @@ tried s slot n m event has_memory spare (ask.Facility more) = stays_itself s
 
 -- ---- a transaction begins
 begun_slot : (t : TransState) (slot n room : ℕ) → Fewer t (with_room_for (with_tran t slot (begun n)) room)
-begun_slot t slot n room id some = slot_none t slot (begun n) refl id some
+begun_slot t slot n room = record { named = (slot_none t slot (begun n) refl).named; forward = (slot_none t slot (begun n) refl).forward }
 
 begins_slot : (t : TransState) (slot n room : ℕ) → Fewer t (after_begin_with t slot n room)
 begins_slot t slot n room = fewer_if t _ _ (may_begin t slot) (begun_slot t slot n room) (fewer_itself t)
@@ -55,12 +55,15 @@ begins s slot n has_memory lock_room room = stays_if s _ _ (may_begin s.trans sl
     (stays_itself s)
 
 -- ---- a transaction that goes forward is refused
+undoing_like : (t : TransState) (slot : ℕ) → Fewer t (with_tran t slot (undoing (tran_at t slot)))
+undoing_like t slot = slot_like t slot (undoing (tran_at t slot)) refl (λ e. absurd cc)
+
 refused_now : (t : TransState) (slot : ℕ) (r : Refusal) (place : ℕ) → Fewer t (refused_for t slot r place)
-refused_now t slot r place = fewer_if t _ _ (may_refuse t slot) (λ id some. slot_like t slot (undoing (tran_at t slot)) refl id some) (fewer_itself t)
+refused_now t slot r place = fewer_if t _ _ (may_refuse t slot) (record { named = (undoing_like t slot).named; forward = (undoing_like t slot).forward }) (fewer_itself t)
 
 refused_by : (t : TransState) (slot : ℕ) (o : Option Offer) → Fewer t (refused_as t slot o)
 refused_by t slot None = fewer_itself t
-refused_by t slot (Some o) = fewer_if t _ _ (same_owner o.owner (owner.Slot slot)) (λ id some. refused_now t slot o.refusal o.place id some) (fewer_itself t)
+refused_by t slot (Some o) = fewer_if t _ _ (same_owner o.owner (owner.Slot slot)) (record { named = (refused_now t slot o.refusal o.place).named; forward = (refused_now t slot o.refusal o.place).forward }) (fewer_itself t)
 
 refuses : (t : TransState) (slot : ℕ) → Fewer t (after_refuse t slot)
 refuses t slot = fewer_if t _ _ (may_refuse t slot) (refused_by t slot t.offer) (fewer_itself t)
@@ -75,22 +78,25 @@ placed s p (Some at) = heads s (is_unpinned (head_of s.heads at)) (placed_in s.h
 
 -- ---- a rollback is postponed
 postponed_now : (t : TransState) (slot : ℕ) → Fewer t (tran_with_postponed t slot (tran_at t slot))
-postponed_now t slot id some =
-    let set = set_named t.slots slot (left_behind (tran_at t slot)) id some in
-    let push = push_named t.rollbacks (tran_at t slot) id in
-    let zero = none_named id some in
-    omega (arith, set, push, zero)
+postponed_now t slot = record {
+  named = λ id some.
+      let set = set_named t.slots slot (left_behind (tran_at t slot)) id some in
+      let push = push_named t.rollbacks (tran_at t slot) id in
+      let zero = none_named id some in
+      omega (arith, set, push, zero);
+  forward = λ id some. (let set = set_forward t.slots slot (left_behind (tran_at t slot)) id in omega (arith, set));
+}
 
 postponed_slot : (t : TransState) (slot : ℕ) → Fewer t (tran_postponed t slot)
 postponed_slot t slot = fewer_if t _ _ (may_postpone_tran t slot) (postponed_now t slot) (fewer_itself t)
 
 postponed_by : (s : MarksState) (slot : ℕ) (by : Option ℕ) → Stays s (postponed_for_member s slot by)
 postponed_by s slot None = stays_itself s
-postponed_by s slot (Some by) = stays_fewer s (with_postponed s slot by) refl (λ id some. postponed_slot s.trans slot id some)
+postponed_by s slot (Some by) = stays_fewer s (with_postponed s slot by) refl (record { named = (postponed_slot s.trans slot).named; forward = (postponed_slot s.trans slot).forward })
 
 waits_by : (s : MarksState) (id : ℕ) (by : Option ℕ) → Stays s (waiting_for s id by)
 waits_by s id None = stays_itself s
-waits_by s id (Some by) = stays_fewer s (waiting_for s id (Some by)) refl (fewer_itself s.trans)
+waits_by s id (Some by) = stays_fewer s (waiting_for s id (Some by)) refl (fewer_same s.trans _ refl refl)
 
 -- ---- any of them
 stays_moved : (s : MarksState) (x : Local) → Stays s (moved x s)
@@ -114,7 +120,10 @@ unfolding Reaches
 reach_stays s t r = stays_as s t (all_moved r.0 s) r.1 (all_stay r.0 s)
 
 pub counted_reach : CountedReach
-counted_reach c s t r k = reach_stays s t r c k
+counted_reach c s t r k = (reach_stays s t r).counted c k
+
+pub forward_reach : ForwardReach
+forward_reach s t r = (reach_stays s t r).forward
 
 -- ---- a rollback is adopted
 adopted_named : (s : MarksState) (id by x : ℕ) (changes : List Change) (undone : List RowChange) → named_in (with_rollback s id by changes undone).trans x ≡ named_in s.trans x + one_if (id == x)

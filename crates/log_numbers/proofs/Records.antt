@@ -1,7 +1,7 @@
 -- The numbers behind a change of transactions, and behind a log record.
 use Rattle.std.proofs.Common.{◌≡◌, ℕ, ◌+◌, ◌≤◌, refl, sym, ◌∙◌, ap, subst, arith, Bool, true, false, inl, inr, List, [], ◌∷◌, ◌++◌, length, take, Option, Some, None}
-use Rattle.std.specs.Prelude.{◌≢◌, ◌⊎◌, ◌-◌, ◌==◌, if◌then◌else◌, slice_index_or, slice_set}
-use Rattle.std.proofs.lemmas.Bool.{cond_both, eqb-true}
+use Rattle.std.specs.Prelude.{◌≢◌, ◌⊎◌, ◌-◌, ◌==◌, ◌&&◌, if◌then◌else◌, slice_index_or, slice_set}
+use Rattle.std.proofs.lemmas.Bool.{cond_both, ne_eqb}
 use Rattle.ds_base.specs.Pages.{heap_set}
 use Rattle.ds_model.specs.declared.log.LogRecord.{LogRecord}
 use Rattle.ds_model.specs.declared.log.RowChange.{RowChange}
@@ -14,26 +14,35 @@ use Rattle.member_trans.specs.Trans.{TransState, TranState, after_draw, all_deci
 use Rattle.member_marks.specs.State.{MarksState, slot_tran, tran_of}
 use Rattle.member_marks.specs.Records.{after_append, after_back, after_change, after_commit, after_system, after_undo, back_noted, back_record, both_fit, both_logged, commit_record, ended_record, fits_in, may_back, may_change, may_commit, row_noted, row_record, set_noted, sets_noted, undone_as, undone_of}
 use Rattle.member_effects.specs.Changes.{system_record}
-use Rattle.log_numbers.specs.Numbers.{named_among, named_in, one_if}
-use Rattle.log_numbers.proofs.Lists.{none_named, set_named}
+use Rattle.log_numbers.specs.Numbers.{forward_among, forward_in, named_among, named_in, one_if}
+use Rattle.log_numbers.proofs.Lists.{like_forward, none_forward, none_named, set_forward, set_named}
 use Rattle.log_numbers.proofs.Stays.{Draws, Fewer, OneMore, Stays, draws_if, draws_put, draws_stays, above_some, fewer_if, fewer_itself, fewer_on, fewer_one, none_more, one_more, stays_itself}
 
--- ---- a transaction that keeps its name
-pub slot_like : (t : TransState) (slot : ℕ) (x : TranState) → x.first ≡ (tran_at t slot).first → Fewer t (with_tran t slot x)
-slot_like t slot x same id some =
-    let set = set_named t.slots slot x id some in
-    let e = ap (λ (z : ℕ). one_if (z == id)) same in
-    omega (arith, set, e)
+-- ---- a transaction that keeps its name, and goes forward only where it did
+pub slot_like : (t : TransState) (slot : ℕ) (x : TranState) → x.first ≡ (tran_at t slot).first → (is_forward x.stage ≡ true → is_forward (tran_at t slot).stage ≡ true) → Fewer t (with_tran t slot x)
+slot_like t slot x same on = record {
+  named = λ id some.
+      let set = set_named t.slots slot x id some in
+      let e = ap (λ (z : ℕ). one_if (z == id)) same in
+      omega (arith, set, e);
+  forward = λ id some.
+      let set = set_forward t.slots slot x id in
+      let e = like_forward x (tran_at t slot) id same on in
+      omega (arith, set, e);
+}
 
 rollback_like : (t : TransState) (k : ℕ) (x : TranState) → x.first ≡ (slice_index_or t.rollbacks k free_tran).first → Fewer t (with_rollback t (Some k) x)
-rollback_like t k x same id some =
-    let set = set_named t.rollbacks k x id some in
-    let e = ap (λ (z : ℕ). one_if (z == id)) same in
-    omega (arith, set, e)
+rollback_like t k x same = record {
+  named = λ id some.
+      let set = set_named t.rollbacks k x id some in
+      let e = ap (λ (z : ℕ). one_if (z == id)) same in
+      omega (arith, set, e);
+  forward = λ id some. omega arith;
+}
 
-pub owner_like : (t : TransState) (o : Owner) (x : TranState) → x.first ≡ (tran_in t o).first → Fewer t (with_tran_of t o x)
-owner_like t (owner.Slot slot) x same = slot_like t slot x same
-owner_like t (owner.Rollback id) x same = by (place_of t id) same
+pub owner_like : (t : TransState) (o : Owner) (x : TranState) → x.first ≡ (tran_in t o).first → (is_forward x.stage ≡ true → is_forward (tran_in t o).stage ≡ true) → Fewer t (with_tran_of t o x)
+owner_like t (owner.Slot slot) x same on = slot_like t slot x same on
+owner_like t (owner.Rollback id) x same on = by (place_of t id) same
   where
     by : (k : Option ℕ) → x.first ≡ (rollback_at t k).first → Fewer t (with_rollback t k x)
     by None e = fewer_itself t
@@ -41,15 +50,21 @@ owner_like t (owner.Rollback id) x same = by (place_of t id) same
 
 -- one that has none, or is gone
 pub slot_none : (t : TransState) (slot : ℕ) (x : TranState) → x.first ≡ 0 → Fewer t (with_tran t slot x)
-slot_none t slot x none id some =
-    let set = set_named t.slots slot x id some in
-    let e = ap (λ (z : ℕ). one_if (z == id)) none in
-    let zero = none_named id some in
-    omega (arith, set, e, zero)
+slot_none t slot x none = record {
+  named = λ id some.
+      let set = set_named t.slots slot x id some in
+      let e = ap (λ (z : ℕ). one_if (z == id)) none in
+      let zero = none_named id some in
+      omega (arith, set, e, zero);
+  forward = λ id some.
+      let set = set_forward t.slots slot x id in
+      let e = none_forward x id none some in
+      omega (arith, set, e);
+}
 
 -- page sets
 pub set_fewer : (t : TransState) (o : Owner) (set : ℕ) → Fewer t (with_set_of t o set)
-set_fewer t o set = owner_like t o (with_set (tran_in t o) set) refl
+set_fewer t o set = owner_like t o (with_set (tran_in t o) set) refl (λ e. e)
 
 sets_fewer : (t : TransState) (slot : ℕ) (ps : List Patch) → Fewer t (sets_noted t slot ps)
 sets_fewer t slot [] = fewer_itself t
@@ -69,13 +84,32 @@ changed_first : (t : TranState) (n id : ℕ) (c : RowChange) → one_if ((change
 changed_first t n id c = cond_both t.has_room (record t { first = first_with t.first n; changes = t.changes ++ record { lrsn = n; change = c } ∷ []; has_room = false }) t (λ (z : TranState). one_if (z.first == id) ≤ one_if (t.first == id) + one_if (n == id))
     (λ e. named_by t.first n id) (λ e. omega arith)
 
+other_forward : (b : Bool) (a n id : ℕ) → id ≢ n → one_if (b && (first_with a n == id)) ≤ one_if (b && (a == id))
+other_forward false a n id other = omega arith
+other_forward true a n id other = cond_both (a == 0) n a (λ (z : ℕ). one_if (z == id) ≤ one_if (a == id))
+    (λ e. let none : one_if (n == id) ≡ 0 = ap one_if (ne_eqb n id (λ q. other (sym q))) in omega (arith, none)) (λ e. omega arith)
+
+-- what goes forward has its name still, where that isn't this number
+changed_forward : (t : TranState) (n id : ℕ) (c : RowChange) → id ≢ n → one_if (is_forward (changed t n c).stage && ((changed t n c).first == id)) ≤ one_if (is_forward t.stage && (t.first == id))
+changed_forward t n id c other = cond_both t.has_room (record t { first = first_with t.first n; changes = t.changes ++ record { lrsn = n; change = c } ∷ []; has_room = false }) t
+    (λ (z : TranState). one_if (is_forward z.stage && (z.first == id)) ≤ one_if (is_forward t.stage && (t.first == id)))
+    (λ e. other_forward (is_forward t.stage) t.first n id other) (λ e. omega arith)
+
 row_one : (t : TransState) (slot n : ℕ) (c : RowChange) → OneMore n t (row_noted t slot n c)
-row_one t slot n c id some =
-    let x : TranState = changed (tran_at t slot) n c in
-    let set = set_named t.slots slot x id some in
-    let first = changed_first (tran_at t slot) n id c in
-    let rest = set_fewer (with_tran t slot x) (owner.Slot slot) (heap_set c.table) id some in
-    omega (arith, set, first, rest)
+row_one t slot n c = record {
+  named = λ id some.
+      let x : TranState = changed (tran_at t slot) n c in
+      let set = set_named t.slots slot x id some in
+      let first = changed_first (tran_at t slot) n id c in
+      let rest = (set_fewer (with_tran t slot x) (owner.Slot slot) (heap_set c.table)).named id some in
+      omega (arith, set, first, rest);
+  forward = λ id some other.
+      let x : TranState = changed (tran_at t slot) n c in
+      let set = set_forward t.slots slot x id in
+      let first = changed_forward (tran_at t slot) n id c other in
+      let rest = (set_fewer (with_tran t slot x) (owner.Slot slot) (heap_set c.table)).forward id some in
+      omega (arith, set, first, rest);
+}
 
 pub draws_change : (s : MarksState) (slot n : ℕ) (c : RowChange) → Draws n s (after_change s slot n c)
 draws_change s slot n c = draws_if n s _ _ (may_change s slot n c) (λ e. draws_put n s _ refl refl (row_one s.trans slot n c)) (draws_stays n s s (stays_itself s))
@@ -84,9 +118,12 @@ draws_change s slot n c = draws_if n s _ _ (may_change s slot n c) (λ e. draws_
 undone_first : (t : TranState) (n : ℕ) → (with_undone t n).first ≡ t.first
 undone_first t n = cond_both (is_empty t.changes) t (record t { changes = take (length t.changes - 1) t.changes; undone = true; ended = if length t.changes == 1 then n else t.ended }) (λ (z : TranState). z.first ≡ t.first) (λ e. refl) (λ e. refl)
 
+undone_stage : (t : TranState) (n : ℕ) → (with_undone t n).stage ≡ t.stage
+undone_stage t n = cond_both (is_empty t.changes) t (record t { changes = take (length t.changes - 1) t.changes; undone = true; ended = if length t.changes == 1 then n else t.ended }) (λ (z : TranState). z.stage ≡ t.stage) (λ e. refl) (λ e. refl)
+
 back_fewer : (t : TransState) (o : Owner) (n set : ℕ) → Fewer t (back_noted t o (tran_in t o) n set)
 back_fewer t o n set = fewer_on t (with_tran_of t o (with_undone (tran_in t o) n)) (back_noted t o (tran_in t o) n set)
-    (owner_like t o (with_undone (tran_in t o) n) (undone_first (tran_in t o) n)) (set_fewer (with_tran_of t o (with_undone (tran_in t o) n)) o set)
+    (owner_like t o (with_undone (tran_in t o) n) (undone_first (tran_in t o) n) (λ e. sym (ap is_forward (undone_stage (tran_in t o) n)) ∙ e)) (set_fewer (with_tran_of t o (with_undone (tran_in t o) n)) o set)
 
 draws_back : (s : MarksState) (o : Owner) (n set : ℕ) (r q : LogRecord) → r.lrsn ≡ n → q.lrsn ≡ n → Draws n s (after_back s o n set r q)
 draws_back s o n set r q first last = draws_if n s _ _ (both_fit s.log r q) (λ e. draws_put n s _ (lasts (length (tran_of s o).changes == 1)) (stays (length (tran_of s o).changes == 1)) (fewer_one n s.trans (back_noted s.trans o (tran_of s o) n set) (back_fewer s.trans o n set)))
@@ -109,8 +146,11 @@ pub draws_undo : (s : MarksState) (o : Owner) (n : ℕ) → Draws n s (after_und
 draws_undo s o n = draws_undone s o n (newest_of (tran_of s o))
 
 -- ---- a commit
-draw_fewer : (t : TransState) (slot : ℕ) → Fewer t (after_draw t slot)
-draw_fewer t slot = fewer_if t _ _ (is_forward (tran_at t slot).stage) (λ id some. slot_like t slot (drawn (tran_at t slot)) refl id some) (fewer_itself t)
+pub draw_fewer : (t : TransState) (slot : ℕ) → Fewer t (after_draw t slot)
+draw_fewer t slot = fewer_if t _ _ (is_forward (tran_at t slot).stage) (record { named = like.named; forward = like.forward }) (fewer_itself t)
+  where
+    like : Fewer t (with_tran t slot (drawn (tran_at t slot)))
+    like = slot_like t slot (drawn (tran_at t slot)) refl (λ e. absurd cc)
 
 pub draws_commit : (s : MarksState) (slot n : ℕ) → Draws n s (after_commit s slot n)
 draws_commit s slot n = draws_if n s _ _ (may_commit s slot n) (λ e. draws_put n s _ refl refl (fewer_one n s.trans (after_draw s.trans slot) (draw_fewer s.trans slot))) (draws_stays n s s (stays_itself s))
@@ -124,13 +164,27 @@ decided_named ts (slot ∷ slots) id some =
     let rest = decided_named (slice_set ts slot x) slots id some in
     omega (arith, set, rest)
 
+decided_forward : (ts : List TranState) (slots : List ℕ) (id : ℕ) → forward_among (all_decided ts slots) id ≤ forward_among ts id
+decided_forward ts [] id = omega arith
+decided_forward ts (slot ∷ slots) id =
+    let x : TranState = decided_tran (slice_index_or ts slot free_tran) in
+    let set = set_forward ts slot x id in
+    let rest = decided_forward (slice_set ts slot x) slots id in
+    omega (arith, set, rest)
+
 pub stays_append : (s : MarksState) → Stays s (after_append s)
-stays_append s c k = record {
-  last = k.last;
-  stable = k.last;
-  below = λ id above. none_more s.trans (after_append s).trans id few (above_some c id above) (k.below id above);
-  once = λ id some. one_more s.trans (after_append s).trans id few some (k.once id some);
+stays_append s = record {
+  counted = λ c k. record {
+    last = k.last;
+    stable = k.last;
+    below = λ id above. none_more s.trans (after_append s).trans id few (above_some c id above) (k.below id above);
+    once = λ id some. one_more s.trans (after_append s).trans id few some (k.once id some);
+  };
+  forward = few.forward;
 }
   where
     few : Fewer s.trans (after_append s).trans
-    few id some = (let d = decided_named s.trans.slots s.trans.commits id some in omega (arith, d))
+    few = record {
+      named = λ id some. (let d = decided_named s.trans.slots s.trans.commits id some in omega (arith, d));
+      forward = λ id some. decided_forward s.trans.slots s.trans.commits id;
+    }

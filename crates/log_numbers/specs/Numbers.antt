@@ -1,23 +1,28 @@
 -- The numbers in a member's log, and those by which the log names its transactions, beside the counter that they are drawn from.
-use Rattle.std.specs.Prelude.{◌≡◌, ◌≢◌, ℕ, ◌+◌, ◌<◌, ◌≤◌, ◌==◌, Bool, true, false, List, [], ◌∷◌}
+use Rattle.std.specs.Prelude.{◌≡◌, ◌≢◌, ◌⊎◌, ℕ, ◌+◌, ◌<◌, ◌≤◌, ◌==◌, ◌&&◌, Bool, true, false, List, [], ◌∷◌}
+use Rattle.std.specs.List.{AllByRecursion}
 use Rattle.ds_base.specs.declared.names.Sizes.{Sizes}
+use Rattle.ds_model.specs.declared.log.LogRecord.{LogRecord}
 use Rattle.ds_model.specs.declared.log.RowChange.{RowChange}
+use Rattle.ds_model.specs.Rows.{Spot}
 use Rattle.facility.specs.Commands.{Executes}
 use Rattle.facility.specs.States.{Held as Facility}
 use Rattle.facility.specs.declared.command.Command.{Command}
 use Rattle.facility.specs.declared.command.Reply.{Reply}
+use Rattle.log_rows.specs.Rows.{has_changed, is_closed}
 use Rattle.member_intents.specs.declared.intent.Intent.{Intent}
 use Rattle.member_intents.specs.declared.outcome.Answered.{Answered}
 use Rattle.member_intents.specs.declared.outcome.Sent.{Sent}
 use Rattle.member_trans.specs.declared.fate.Change.{Change}
 use Rattle.member_trans.specs.declared.fate.Owner.{Owner}
 use Rattle.member_trans.specs.declared.fate.Owner.TheVariants as owner
-use Rattle.member_trans.specs.Trans.{TransState, TranState, is_undoing}
+use Rattle.member_trans.specs.Trans.{TransState, TranState, is_forward, is_undoing}
 use Rattle.member_marks.specs.Local.{Reaches}
 use Rattle.member_marks.specs.Rollbacks.{after_adopt}
 use Rattle.member_marks.specs.State.{MarksState, tran_of}
+use Rattle.member_effects.specs.Puts.{event_records}
 use Rattle.member_resources.specs.Events.{Happens, World}
-use Rattle.member_resources.specs.Held.{Held, IsNew}
+use Rattle.member_resources.specs.Held.{Held, IsNew, begun}
 
 -- ---- how many transactions the log names by a number, which is that of their first record
 
@@ -68,6 +73,35 @@ CountedAdopt = (counter : ℕ) (s : MarksState) (id by : ℕ) (changes : List Ch
 
 abbrev pub CommandsCount : Type 0
 CommandsCount = (f g : Facility) (m : ℕ) (c : Command) (page after : List ℕ) (answer : Reply) → Executes f m c page answer g after → f.counter ≤ g.counter
+
+-- ---- how many transactions of slots go forward, by their name in the log
+
+abbrev pub forward_among : List TranState → ℕ → ℕ
+forward_among [] id = 0
+forward_among (t ∷ ts) id = one_if (is_forward t.stage && (t.first == id)) + forward_among ts id
+
+abbrev pub forward_in : TransState → ℕ → ℕ
+forward_in t id = forward_among t.slots id
+
+-- an event lets none go forward that didn't, but under the number that it draws; and local moves let none
+abbrev pub ForwardStay : Type 0
+ForwardStay = (w v : World) (h k : Held) (i : Intent) (place : ℕ) (sent : Sent) (a : Answered)
+    → Happens w h i place sent a v k → (id : ℕ) → id ≢ 0 → id ≤ w.facility.counter → forward_in k.marks.trans id ≤ forward_in h.marks.trans id
+
+abbrev pub ForwardReach : Type 0
+ForwardReach = (s t : MarksState) → Reaches s t → (id : ℕ) → id ≢ 0 → forward_in t.trans id ≤ forward_in s.trans id
+
+-- Records that an event puts, between these numbers of the counter, and these marks: no number of a transaction in them is above the counter. Those
+-- that change a row name a transaction that goes forward, or one by a number that was drawn; and what they close doesn't go forward behind them.
+pub record RecordsName (before after : ℕ) (s t : MarksState) (records : List LogRecord) : Type 0 where
+  pub below : AllByRecursion (λ (r : LogRecord). r.tran ≤ after) records
+  pub changed : (id : ℕ) (spot : Spot) → id ≢ 0 → has_changed records id spot ≡ true → (before < id) ⊎ (1 ≤ forward_in s.trans id)
+  pub closed : (id : ℕ) → id ≢ 0 → is_closed records id ≡ true → forward_in t.trans id ≡ 0
+
+abbrev pub RecordsAreNamed : Type 0
+RecordsAreNamed = (w v : World) (h k : Held) (i : Intent) (place : ℕ) (sent : Sent) (a : Answered)
+    → (happens : Happens w h i place sent a v k) → AreCounted w.facility.counter h.marks
+    → RecordsName w.facility.counter v.facility.counter h.marks k.marks (event_records (begun happens.ready place).marks i happens.plan a)
 
 -- ---- owners whose transactions have one name are the same
 

@@ -1,5 +1,5 @@
 //! What no event of a member changes: that no number in its log is above the facility's counter, from which they are drawn, and that no two
-//! of its transactions have one name, which is the number of the first record.
+//! of its transactions have one name, which is the number of the first record; and that no record closes one that goes forward.
 //!
 //! The crate has definitions and proofs alone. Its functions do nothing: their contracts are the theorems.
 #![tactic(auto)]
@@ -11,7 +11,10 @@ ghost use Rattle.log_numbers.specs.Numbers.{
   CountedMore,
   CountedReach,
   CountedStay,
+  ForwardReach,
+  ForwardStay,
   NamesApart,
+  RecordsAreNamed,
   RollbacksNamed,
 };
 
@@ -25,6 +28,17 @@ pub fn numbers_stay()
     ensures local { CountedReach }
     ensures more { CountedMore }
     ensures adopted { CountedAdopt }
+{
+    sends_lawfully();
+}
+
+/// No event of a member lets a transaction go forward that didn't, but under the number that it draws; nor do local moves. The records that it
+/// puts name transactions by numbers at or below the counter: those that change a row name one that goes forward, or is new; and what they
+/// close goes forward no more.
+pub fn forward_stays()
+    ensures event { ForwardStay }
+    ensures local { ForwardReach }
+    ensures records { RecordsAreNamed }
 {
     sends_lawfully();
 }

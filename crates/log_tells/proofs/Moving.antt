@@ -9,7 +9,7 @@ use Rattle.ds_base.specs.declared.names.PageId.{PageId}
 use Rattle.ds_model.specs.declared.log.LogRecord.{LogRecord}
 use Rattle.page_chain.specs.Chains.{touches, after_record}
 use Rattle.page_protocol.specs.Page.{Page, Group, put, change, compensate, owned_whole, given_up, lose, fail, all_fail, brought_forward, risen}
-use Rattle.page_protocol.specs.Moves.{World, PageMove, Move, Read, ReadDisk, Write, WriteDirect, CastoutRead, CastoutWrite, CastoutDone, Reclaim, DropFrame, Lock, Unlock, Redo, Purge, Rebuild, At, Draw, Force, TakeSet, YieldSet, PurgeSet, Lose, ReadLog, Rebuilt, Fail, Restart, Open, GroupFail, Forward, Compensate, Append, Rise as RiseUp, PageStep, Step, IsCut, IsWholeCut, drawn, forced, failed, without_cache, log_read, with_cache, restarting, opened, all_failed, longer, all_up}
+use Rattle.page_protocol.specs.Moves.{World, PageMove, Move, Read, ReadDisk, Write, WriteDirect, CastoutRead, CastoutWrite, CastoutDone, Reclaim, DropFrame, Lock, Unlock, Redo, PutAside, Purge, Rebuild, At, Draw, Force, TakeSet, YieldSet, PurgeSet, Lose, ReadLog, Rebuilt, Fail, Restart, Open, GroupFail, Forward, Compensate, Append, Rise as RiseUp, PageStep, Step, IsCut, IsWholeCut, drawn, forced, failed, without_cache, log_read, with_cache, restarting, opened, all_failed, longer, all_up}
 use Rattle.page_protocol.specs.Coherent.{Coherent}
 use Rattle.page_protocol.specs.Always.{Good, Stands}
 use Rattle.log_tells.specs.Told.{Told, IsDrawn, IsTold, is_of, chain_of, version_at, Fill, Rise, AreChanges}
@@ -40,6 +40,7 @@ same_page g p q (DropFrame m) st = subst (Same p) (sym st.1) (record { last = re
 same_page g p q (Lock m) st = subst (Same p) (sym st.2) (record { last = refl; each = λ j. record { author = refl; place = refl; lrsn = refl } })
 same_page g p q (Unlock m) st = subst (Same p) (sym st.4) (record { last = refl; each = λ j. record { author = refl; place = refl; lrsn = refl } })
 same_page g p q (Redo m) st = subst (Same p) (sym st.4) (record { last = refl; each = λ j. record { author = refl; place = refl; lrsn = refl } })
+same_page g p q (PutAside m) st = subst (Same p) (sym st.3) (record { last = refl; each = λ j. record { author = refl; place = refl; lrsn = refl } })
 same_page g p q (Purge m) st = subst (Same p) (sym st.5) (record { last = refl; each = λ j. record { author = refl; place = refl; lrsn = refl } })
 same_page g p q (Rebuild n) st = subst (Same p) (sym st.2) (record { last = refl; each = λ j. record { author = refl; place = refl; lrsn = refl } })
 

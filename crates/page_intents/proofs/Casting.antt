@@ -26,7 +26,7 @@ use Rattle.page_world.specs.Tied.{PageTied, Tied, Moved}
 use Rattle.page_world.specs.Castouts.{taken_cast as taken_bytes, sent_cast, cached, BeginsMoves, CastsMoves, EndsMoves}
 use Rattle.page_intents.specs.Stands.{IsUp, Goes}
 use Rattle.page_intents.specs.Numbers.{AreNumbered}
-use Rattle.page_intents.specs.Castouts.{cast_of, cast_behind, taken_cast, CastReadGoes, CastWriteGoes, CastDoneGoes}
+use Rattle.page_intents.specs.Castouts.{cast_of, cast_behind, taken_cast, AnyDoneGoes, AnyReadGoes, AnyWriteGoes, CastDoneGoes, CastGoes, CastReadGoes, CastWriteGoes}
 use Rattle.page_intents.proofs.Chains.{AtPages, at_one, at_none, numbered_on}
 use Rattle.page_intents.proofs.Standing.{SameMembers, same_members}
 
@@ -116,15 +116,12 @@ up_beside g forced k v now disk up same = record {
   no_more = up.no_more;
 }
 
-goes_beside : (w : World) (g : Holdings) (content : ℕ → ℕ → List ℕ) (forced : ℕ → ℕ) (k : Kept) (v : Held) (now : ℕ → ℕ → Cast) (disk : ℕ → List ℕ) (moves : List Move) → AreNumbered w content forced → IsUp g forced k → SameMembers g.facility v → AtPages moves
-    → Moved w moves (record g { facility = v; casts = now; disk = disk }) content → Goes w content forced (record g { facility = v; casts = now; disk = disk }) k.marks k
-goes_beside w g content forced k v now disk moves numbered up same pages moved = record {
-  moves = moves;
-  moved = moved;
-  numbered = numbered_on w moved.world moves content forced pages moved.run numbered;
-  same = refl;
-  stands = up_beside g forced k v now disk up same;
-}
+goes_up : (w : World) (g : Holdings) (content : ℕ → ℕ → List ℕ) (forced : ℕ → ℕ) (k : Kept) (v : Held) (now : ℕ → ℕ → Cast) (disk : ℕ → List ℕ) → CastGoes w content forced (record g { facility = v; casts = now; disk = disk }) → IsUp g forced k → SameMembers g.facility v
+    → Goes w content forced (record g { facility = v; casts = now; disk = disk }) k.marks k
+goes_up w g content forced k v now disk c up same = record { moves = c.moves; moved = c.moved; numbered = c.numbered; same = refl; stands = up_beside g forced k v now disk up same }
+
+casts : (w : World) (content : ℕ → ℕ → List ℕ) (forced : ℕ → ℕ) (left : Holdings) (moves : List Move) → AreNumbered w content forced → AtPages moves → Moved w moves left content → CastGoes w content forced left
+casts w content forced left moves numbered pages moved = record { moves = moves; moved = moved; numbered = numbered_on w moved.world moves content forced pages moved.run numbered }
 
 -- ---- the page is read
 not_first : (b : Bool) (x : CastReply) → ((if b then cast.Taken else x) ≡ cast.Taken → ⊥) → b ≡ false
@@ -148,35 +145,32 @@ same_buffer : (d : Directory) (m : ℕ) (id : PageId) (buffer : List ℕ) → (d
 same_buffer d m id buffer (inl lost) = ap (λ z. if is_taken d m id then z else buffer) (cond-true d.lost buffer (unwrap_or (bytes_of d id) buffer) lost) ∙ either (is_taken d m id) buffer
 same_buffer d m id buffer (inr none) = cond-false (is_taken d m id) (read_into d id buffer) buffer none
 
-abbrev ReadLeft : World → Holdings → (ℕ → ℕ → List ℕ) → (ℕ → ℕ) → Kept → Option InHand → List ℕ → PageId → Held → Reply → Type 0
-ReadLeft w g content forced k hand bytes page v a = Goes w content forced (cast_behind g v k.marks.member (taken_cast hand page a) bytes) k.marks k
+abbrev ReadLeft : World → Holdings → (ℕ → ℕ → List ℕ) → (ℕ → ℕ) → ℕ → Option InHand → List ℕ → PageId → Held → Reply → Type 0
+ReadLeft w g content forced m hand bytes page v a = CastGoes w content forced (cast_behind g v m (taken_cast hand page a) bytes)
 
-pub cast_read_goes : Numbers → BeginsMoves → CastReadGoes
-cast_read_goes numbers begins w g content forced k hand buffer bytes page answer v b has r = by (cast_reply d m page) refl
+pub any_read_goes : Numbers → BeginsMoves → AnyReadGoes
+any_read_goes numbers begins w g content forced m hand buffer bytes page answer v tied numbered has r = by (cast_reply d m page) refl
   where
     d : Directory
     d = g.facility.directory
 
-    m : ℕ
-    m = k.marks.member
-
     n : ℕ
     n = page_number page
 
-    so : (a : Reply) → answer ≡ a → ReadLeft w g content forced k hand bytes page v a → ReadLeft w g content forced k hand bytes page v answer
-    so a e h = subst (λ z. ReadLeft w g content forced k hand bytes page v z) (sym e) h
+    so : (a : Reply) → answer ≡ a → ReadLeft w g content forced m hand bytes page v a → ReadLeft w g content forced m hand bytes page v answer
+    so a e h = subst (λ z. ReadLeft w g content forced m hand bytes page v z) (sym e) h
 
-    refused : (x : CastReply) → cast_reply d m page ≡ x → (x ≡ cast.Taken → ⊥) → Goes w content forced (cast_behind g v m hand bytes) k.marks k
+    refused : (x : CastReply) → cast_reply d m page ≡ x → (x ≡ cast.Taken → ⊥) → CastGoes w content forced (cast_behind g v m hand bytes)
     refused x e other =
         let why = not_taken m d.lost (entry_of d.entries page) (λ z. other (sym e ∙ z)) in
         let same : v ≡ g.facility = r.1 ∙ ap (λ (z : Directory). record g.facility { directory = z }) (same_directory d m page why) in
         let kept : bytes ≡ buffer = r.2 ∙ same_buffer d m page buffer why in
         let now = (cast_behind g v m hand bytes).casts in
         let fits : Fits g.casts now = fits_by m (cast_of hand bytes) g.casts g.casts (λ j. inl (ap (λ z. cast_of hand z j) kept ∙ sym (has j))) (λ p j ne. refl) in
-        goes_beside w g content forced k v now g.disk [] b.numbered b.up (same_members g.facility v g.facility same (record { members = refl; statuses = refl; counter = refl })) at_none
-        (subst (λ z. Moved w [] (record g { facility = z; casts = now }) content) (sym same) (record { world = w; run = refl; tied = forgets w g content now b.tied fits }))
+        casts w content forced (cast_behind g v m hand bytes) [] numbered at_none
+        (subst (λ z. Moved w [] (record g { facility = z; casts = now }) content) (sym same) (record { world = w; run = refl; tied = forgets w g content now tied fits }))
 
-    by : (x : CastReply) → cast_reply d m page ≡ x → ReadLeft w g content forced k hand bytes page v answer
+    by : (x : CastReply) → cast_reply d m page ≡ x → ReadLeft w g content forced m hand bytes page v answer
     by cast.Taken e =
         let is : answer ≡ reply.Taken = r.0 ∙ ap reply_to_cast e in
         let it : InHand = record { page = page; is_written = false } in
@@ -184,28 +178,41 @@ cast_read_goes numbers begins w g content forced k hand buffer bytes page answer
         let before = (with_cast g m n (taken_bytes bytes)).casts in
         let fits : Fits before now = fits_by m (cast_of (Some it) bytes) g.casts before (own_cast g.casts m n (taken_bytes bytes)) (λ p j ne. cast_other g.casts m n p j (taken_bytes bytes) ne) in
         so reply.Taken is
-        (goes_beside w g content forced k v now g.disk (At n (CastoutRead m (cached w n)) ∷ []) b.numbered b.up (same_members g.facility v _ r.1 (record { members = refl; statuses = refl; counter = refl })) (at_one n (CastoutRead m (cached w n)))
+        (casts w content forced (cast_behind g v m (Some it) bytes) (At n (CastoutRead m (cached w n)) ∷ []) numbered (at_one n (CastoutRead m (cached w n)))
         (moved_forgets w (At n (CastoutRead m (cached w n)) ∷ []) (with_facility (with_cast g m n (taken_bytes bytes)) v) content now
-        (begins w g content m n buffer bytes v b.tied (subst (λ z. BeginsCastout g.facility m z buffer reply.Taken v bytes) (sym (numbers.named page)) (subst (λ z. BeginsCastout g.facility m page buffer z v bytes) is r))) fits))
+        (begins w g content m n buffer bytes v tied (subst (λ z. BeginsCastout g.facility m z buffer reply.Taken v bytes) (sym (numbers.named page)) (subst (λ z. BeginsCastout g.facility m page buffer z v bytes) is r))) fits))
     by cast.NotChanged e = so reply.NotChanged (r.0 ∙ ap reply_to_cast e) (refused cast.NotChanged e (λ z. cc z))
     by (cast.Locked other) e = so (reply.Locked other) (r.0 ∙ ap reply_to_cast e) (refused (cast.Locked other) e (λ z. cc z))
     by cast.Lost e = so reply.Lost (r.0 ∙ ap reply_to_cast e) (refused cast.Lost e (λ z. cc z))
 
--- ---- the page is written
-pub cast_write_goes : Numbers → CastsMoves → CastWriteGoes
-cast_write_goes numbers casts w g content forced k hand buffer b has holder =
+pub cast_read_goes : Numbers → BeginsMoves → CastReadGoes
+cast_read_goes numbers begins w g content forced k hand buffer bytes page answer v b has r =
     let m = k.marks.member in
+    let left = cast_behind g v m (taken_cast hand page answer) bytes in
+    goes_up w g content forced k v left.casts g.disk (any_read_goes numbers begins w g content forced m hand buffer bytes page answer v b.tied b.numbered has r) b.up
+    (same_members g.facility v _ r.1 (record { members = refl; statuses = refl; counter = refl }))
+
+-- ---- the page is written
+pub any_write_goes : Numbers → CastsMoves → AnyWriteGoes
+any_write_goes numbers law w g content forced m hand buffer tied numbered has holder =
     let n = page_number hand.page in
     let it : InHand = record hand { is_written = true } in
     let c = in_hand g m hand buffer has in
-    let now = (cast_behind g g.facility m (Some it) buffer).casts in
+    let left = record (cast_behind g g.facility m (Some it) buffer) { disk = put g.disk n buffer } in
     let sent : Cast = record { taken = true; sent = true; bytes = buffer } in
     let before = (with_cast g m n sent).casts in
-    let fits : Fits before now = fits_by m (cast_of (Some it) buffer) g.casts before (own_cast g.casts m n sent) (λ p j ne. cast_other g.casts m n p j sent ne) in
-    let moved = casts w g content m n b.tied (subst (λ z. castout_of g.facility.directory z ≡ Some m) (sym (numbers.named hand.page)) holder) (ap (λ (z : Cast). z.taken) c) in
+    let fits : Fits before left.casts = fits_by m (cast_of (Some it) buffer) g.casts before (own_cast g.casts m n sent) (λ p j ne. cast_other g.casts m n p j sent ne) in
+    let moved = law w g content m n tied (subst (λ z. castout_of g.facility.directory z ≡ Some m) (sym (numbers.named hand.page)) holder) (ap (λ (z : Cast). z.taken) c) in
     let so = subst (λ (z : Cast). Moved w (At n (CastoutWrite m) ∷ []) (record (with_cast g m n (sent_cast z)) { disk = put g.disk n z.bytes }) content) c moved in
-    goes_beside w g content forced k g.facility now (put g.disk n buffer) (At n (CastoutWrite m) ∷ []) b.numbered b.up (record { members = refl; statuses = refl; counter = refl }) (at_one n (CastoutWrite m))
-    (moved_forgets w (At n (CastoutWrite m) ∷ []) (record (with_cast g m n sent) { disk = put g.disk n buffer }) content now so fits)
+    casts w content forced left (At n (CastoutWrite m) ∷ []) numbered (at_one n (CastoutWrite m))
+    (moved_forgets w (At n (CastoutWrite m) ∷ []) (record (with_cast g m n sent) { disk = put g.disk n buffer }) content left.casts so fits)
+
+pub cast_write_goes : Numbers → CastsMoves → CastWriteGoes
+cast_write_goes numbers law w g content forced k hand buffer b has holder =
+    let m = k.marks.member in
+    let left = cast_behind g g.facility m (Some (record hand { is_written = true })) buffer in
+    goes_up w g content forced k g.facility left.casts (put g.disk (page_number hand.page) buffer) (any_write_goes numbers law w g content forced m hand buffer b.tied b.numbered has holder) b.up
+    (record { members = refl; statuses = refl; counter = refl })
 
 -- ---- the castout is done
 held_lock : (l h : Bool) → (if l then done.Lost else if h then done.Done else done.NotHeld) ≡ done.Done → h ≡ true
@@ -231,45 +238,49 @@ same_done f d done.Done = record { members = refl; statuses = refl; counter = re
 same_done f d done.NotHeld = record { members = refl; statuses = refl; counter = refl }
 same_done f d done.Lost = record { members = refl; statuses = refl; counter = refl }
 
-pub cast_done_goes : Numbers → EndsMoves → CastDoneGoes
-cast_done_goes numbers ends w g content forced k hand buffer answer v b has may r = by (done_reply d m hand.page) refl
+done_members : (g : Holdings) (m : ℕ) (hand : InHand) (answer : Reply) (v : Held) → EndsCastout g.facility m hand.page answer v → SameMembers g.facility v
+done_members g m hand answer v r = same_members g.facility v _ r.1 (same_done g.facility (after_castout_done g.facility.directory m hand.page) (done_reply g.facility.directory m hand.page))
+
+pub any_done_goes : Numbers → EndsMoves → AnyDoneGoes
+any_done_goes numbers ends w g content forced m hand buffer answer v good tied numbered has may r = by (done_reply d m hand.page) refl
   where
     d : Directory
     d = g.facility.directory
 
-    m : ℕ
-    m = k.marks.member
-
     n : ℕ
     n = page_number hand.page
 
-    now : ℕ → ℕ → Cast
-    now = (cast_behind g v m None buffer).casts
+    left : Holdings
+    left = cast_behind g v m None buffer
 
-    members : SameMembers g.facility v
-    members = same_members g.facility v _ r.1 (same_done g.facility (after_castout_done d m hand.page) (done_reply d m hand.page))
-
-    over : (x : DoneReply) → done_reply d m hand.page ≡ x → (x ≡ done.Done → ⊥) → lists_after_done x g.facility.lists ≡ g.facility.lists → Goes w content forced (cast_behind g v m None buffer) k.marks k
+    over : (x : DoneReply) → done_reply d m hand.page ≡ x → (x ≡ done.Done → ⊥) → lists_after_done x g.facility.lists ≡ g.facility.lists → CastGoes w content forced left
     over x e other rung =
         let stays = stays_so d.lost (holds_castout d m hand.page) d (record d { entries = at_entry hand.page cast_out d.entries }) (λ z. other (sym e ∙ z)) in
         let lists = ap (λ z. lists_after_done z g.facility.lists) e ∙ rung in
         let same : v ≡ g.facility = r.1 ∙ (λ i. record g.facility { directory = stays i; lists = lists i }) in
-        goes_beside w g content forced k v now g.disk [] b.numbered b.up members at_none
-        (subst (λ z. Moved w [] (record g { facility = z; casts = now }) content) (sym same) (record { world = w; run = refl; tied = forgets w g content now b.tied (fits_by m (λ j. no_cast) g.casts g.casts (λ j. inr refl) (λ p j ne. refl)) }))
+        casts w content forced left [] numbered at_none
+        (subst (λ z. Moved w [] (record g { facility = z; casts = left.casts }) content) (sym same) (record { world = w; run = refl; tied = forgets w g content left.casts tied (fits_by m (λ j. no_cast) g.casts g.casts (λ j. inr refl) (λ p j ne. refl)) }))
 
     lock : done_reply d m hand.page ≡ done.Done → castout_of d hand.page ≡ Some m
     lock e = by_entry m (entry_of d.entries hand.page) (held_lock d.lost (holds_castout d m hand.page) e)
 
-    by : (x : DoneReply) → done_reply d m hand.page ≡ x → Goes w content forced (cast_behind g v m None buffer) k.marks k
+    by : (x : DoneReply) → done_reply d m hand.page ≡ x → CastGoes w content forced left
     by done.Done e = elim may [
       | inl written ↦ (let is : answer ≡ reply.Done = r.0 ∙ ap reply_to_done e in
           let c = in_hand g m hand buffer has in
-          goes_beside w g content forced k v now g.disk (At n (CastoutDone m) ∷ []) b.numbered b.up members (at_one n (CastoutDone m))
-          (moved_forgets w (At n (CastoutDone m) ∷ []) (with_facility (with_cast g m n no_cast) v) content now
-          (ends w g content m n v b.good b.tied (ap (λ (z : Cast). z.taken) c) (ap (λ (z : Cast). z.sent) c ∙ written)
+          casts w content forced left (At n (CastoutDone m) ∷ []) numbered (at_one n (CastoutDone m))
+          (moved_forgets w (At n (CastoutDone m) ∷ []) (with_facility (with_cast g m n no_cast) v) content left.casts
+          (ends w g content m n v good tied (ap (λ (z : Cast). z.taken) c) (ap (λ (z : Cast). z.sent) c ∙ written)
           (subst (λ z. EndsCastout g.facility m z reply.Done v) (sym (numbers.named hand.page)) (subst (λ z. EndsCastout g.facility m hand.page z v) is r)))
           (fits_by m (λ j. no_cast) g.casts (with_cast g m n no_cast).casts (λ j. inr refl) (λ p j ne. cast_other g.casts m n p j no_cast ne))))
       | inr not_mine ↦ absurd (not_mine (lock e))
     ]
     by done.NotHeld e = over done.NotHeld e (λ z. cc z) refl
     by done.Lost e = over done.Lost e (λ z. cc z) refl
+
+pub cast_done_goes : Numbers → EndsMoves → CastDoneGoes
+cast_done_goes numbers ends w g content forced k hand buffer answer v b has may r =
+    let m = k.marks.member in
+    let left = cast_behind g v m None buffer in
+    goes_up w g content forced k v left.casts g.disk (any_done_goes numbers ends w g content forced m hand buffer answer v b.good b.tied b.numbered has may r) b.up
+    (done_members g m hand answer v r)

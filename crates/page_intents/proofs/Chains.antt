@@ -7,7 +7,7 @@ use Rattle.cache_structure.specs.Entries.{Entry, entry_of}
 use Rattle.cache_structure.specs.Directory.{Directory, has_free_place, reclaimable}
 use Rattle.page_format.specs.Fields.{lrsn_of}
 use Rattle.page_protocol.specs.Page.{Page, Group, put}
-use Rattle.page_protocol.specs.Moves.{World, PageMove, Move, PageStep, Step, Run, At, Read, ReadDisk, Write, WriteDirect, CastoutRead, CastoutWrite, CastoutDone, Reclaim, DropFrame, Lock, Unlock, Redo, Purge, Rebuild}
+use Rattle.page_protocol.specs.Moves.{World, PageMove, Move, PageStep, Step, Run, At, Read, ReadDisk, Write, WriteDirect, CastoutRead, CastoutWrite, CastoutDone, Reclaim, DropFrame, Lock, Unlock, Redo, PutAside, Purge, Rebuild}
 use Rattle.page_world.specs.Numbers.{set_of}
 use Rattle.page_world.specs.Cache.{reclaim_of, entry_moves}
 use Rattle.page_intents.specs.Numbers.{AreNumbered}
@@ -34,6 +34,7 @@ step_chain g p q (DropFrame m) s = ap chain_of s.1
 step_chain g p q (Lock m) s = ap chain_of s.2
 step_chain g p q (Unlock m) s = ap chain_of s.4
 step_chain g p q (Redo m) s = ap chain_of s.4
+step_chain g p q (PutAside m) s = ap chain_of s.3
 step_chain g p q (Purge m) s = ap chain_of s.5
 step_chain g p q (Rebuild n) s = ap chain_of s.2
 

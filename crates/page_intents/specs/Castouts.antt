@@ -1,6 +1,7 @@
--- The intents of a castout, of a member that is up.
+-- The intents of a castout, of a member that is up, and of one whose restart is in hand.
 use Rattle.std.specs.Prelude.{◌≡◌, ◌≢◌, ◌⊎◌, ℕ, ◌==◌, true, false, if◌then◌else◌, List, Option, Some, None}
 use Rattle.ds_base.specs.declared.names.PageId.{PageId}
+use Rattle.list_structure.specs.Standings.{status_of}
 use Rattle.facility.specs.declared.command.Reply.{Reply}
 use Rattle.facility.specs.declared.command.Reply.TheVariants as reply
 use Rattle.facility.specs.States.{Held, castout_member}
@@ -8,9 +9,12 @@ use Rattle.facility.specs.CacheCommands.{BeginsCastout, EndsCastout}
 use Rattle.member_needs.specs.declared.castout.Cast.{Cast as InHand}
 use Rattle.member_effects.specs.Kept.{Kept}
 use Rattle.page_protocol.specs.Page.{put}
-use Rattle.page_protocol.specs.Moves.{World}
+use Rattle.page_protocol.specs.Moves.{World, Move}
+use Rattle.page_protocol.specs.Always.{Good}
 use Rattle.page_world.specs.Numbers.{page_number}
 use Rattle.page_world.specs.Holdings.{Cast, no_cast, Holdings}
+use Rattle.page_world.specs.Tied.{Moved, Tied}
+use Rattle.page_intents.specs.Numbers.{AreNumbered}
 use Rattle.page_intents.specs.Stands.{Goes}
 use Rattle.page_intents.specs.Frames.{Begins}
 
@@ -52,3 +56,34 @@ CastDoneGoes = (w : World) (g : Holdings) (content : ℕ → ℕ → List ℕ) (
     → Begins w g content forced k → HasCast g k.marks.member (Some cast) buffer → (cast.is_written ≡ true) ⊎ (castout_member g.facility cast.page ≢ Some k.marks.member)
     → EndsCastout g.facility k.marks.member cast.page answer v
     → Goes w content forced (cast_behind g v k.marks.member None buffer) k.marks k
+
+-- ---- each of them is so of any member, whatever its standing: moves lead to a world that stands beside what is left, whose versions still show
+-- their numbers
+
+pub record CastGoes (w : World) (content : ℕ → ℕ → List ℕ) (forced : ℕ → ℕ) (left : Holdings) : Type 0 where
+  pub moves : List Move
+  pub moved : Moved w moves left content
+  pub numbered : AreNumbered moved.world content forced
+
+abbrev pub AnyReadGoes : Type 0
+AnyReadGoes = (w : World) (g : Holdings) (content : ℕ → ℕ → List ℕ) (forced : ℕ → ℕ) (m : ℕ) (cast : Option InHand) (buffer bytes : List ℕ) (page : PageId) (answer : Reply) (v : Held)
+    → Tied w g content → AreNumbered w content forced → HasCast g m cast buffer → BeginsCastout g.facility m page buffer answer v bytes
+    → CastGoes w content forced (cast_behind g v m (taken_cast cast page answer) bytes)
+
+abbrev pub AnyWriteGoes : Type 0
+AnyWriteGoes = (w : World) (g : Holdings) (content : ℕ → ℕ → List ℕ) (forced : ℕ → ℕ) (m : ℕ) (cast : InHand) (buffer : List ℕ)
+    → Tied w g content → AreNumbered w content forced → HasCast g m (Some cast) buffer → castout_member g.facility cast.page ≡ Some m
+    → CastGoes w content forced (record (cast_behind g g.facility m (Some (record cast { is_written = true })) buffer) { disk = put g.disk (page_number cast.page) buffer })
+
+abbrev pub AnyDoneGoes : Type 0
+AnyDoneGoes = (w : World) (g : Holdings) (content : ℕ → ℕ → List ℕ) (forced : ℕ → ℕ) (m : ℕ) (cast : InHand) (buffer : List ℕ) (answer : Reply) (v : Held)
+    → Good w → Tied w g content → AreNumbered w content forced → HasCast g m (Some cast) buffer → (cast.is_written ≡ true) ⊎ (castout_member g.facility cast.page ≢ Some m)
+    → EndsCastout g.facility m cast.page answer v → CastGoes w content forced (cast_behind g v m None buffer)
+
+-- what the group holds of the member, but for what it casts out, is as it was, and so are the owners of pages
+pub record LeavesMember (g left : Holdings) (m : ℕ) : Type 0 where
+  pub standing : status_of left.facility.lists.statuses m ≡ status_of g.facility.lists.statuses m
+  pub stable : left.stable m ≡ g.stable m
+  pub written : left.written m ≡ g.written m
+  pub copies : (n : ℕ) → left.copies m n ≡ g.copies m n
+  pub owner : left.owner ≡ g.owner

@@ -4,7 +4,7 @@
 //! The crate has definitions and proofs alone. Its functions do nothing: their contracts are the theorems.
 #![tactic(auto)]
 
-ghost use Rattle.page_intents.specs.Castouts.{CastDoneGoes, CastReadGoes, CastWriteGoes};
+ghost use Rattle.page_intents.specs.Castouts.{AnyDoneGoes, AnyReadGoes, AnyWriteGoes, CastDoneGoes, CastReadGoes, CastWriteGoes};
 ghost use Rattle.page_intents.specs.Draws.{ChangeGoes, CommitGoes, UndoGoes};
 ghost use Rattle.page_intents.specs.Frames.{FillGoes, FreeGoes, ReadGoes, TestGoes, TestTells, WriteGoes};
 ghost use Rattle.page_intents.specs.Locals.{LoseGoes, PinGoes, PlaceGoes, StaleGoes, UnpinGoes};
@@ -61,11 +61,15 @@ pub fn appends_go()
 }
 
 /// A page that is cast out: it is read under its castout lock, whatever the reply, and written to disk while the member has that lock;
-/// and the castout is done where the page was written, or the lock is another's or nobody's by now.
+/// and the castout is done where the page was written, or the lock is another's or nobody's by now. So it is of a member that is up, which then
+/// still is, and of any other.
 pub fn castouts_go()
     ensures read { CastReadGoes }
     ensures write { CastWriteGoes }
     ensures done { CastDoneGoes }
+    ensures any_read { AnyReadGoes }
+    ensures any_write { AnyWriteGoes }
+    ensures any_done { AnyDoneGoes }
 {
     pages_have_numbers();
     castouts_are_moves();

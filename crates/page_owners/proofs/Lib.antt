@@ -5,3 +5,5 @@ pub mod Starting
 pub mod Runs
 pub mod Resting
 pub mod Bare
+pub mod Casting
+pub mod Keeping

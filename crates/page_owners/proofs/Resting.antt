@@ -27,7 +27,7 @@ use Rattle.page_owners.specs.Resting.{RestsLeave, casts_out}
 use Rattle.page_owners.proofs.InX.{is_lawful}
 
 -- what goes out leaves the pages
-data Quietly (s : Sent) : Type 0 where
+pub data Quietly (s : Sent) : Type 0 where
   Nothing : s ≡ sent.None → Quietly s
   Commands : (c : Command) → leaves_pages c ≡ true → s ≡ sent.Command c → Quietly s
 
@@ -40,7 +40,7 @@ never : {A : Type 0} → true ≡ false → A
 never e = absurd (cc e)
 
 module _ (h : Held) (place : ℕ) (holder : Option ℕ) (s : Sent) where
-  quiet : (i : Intent) → touches_pages i ≡ false → casts_out i ≡ false → Lawful h.marks h.pages (setting_of h holder place) i s → Quietly s
+  pub quiet : (i : Intent) → touches_pages i ≡ false → casts_out i ≡ false → Lawful h.marks h.pages (setting_of h holder place) i s → Quietly s
   quiet intent.Step leaves uncast l = Nothing l
   quiet (intent.Obtain o n m) leaves uncast l = Commands (command.Obtain n m) refl l.is
   quiet (intent.Grant o n m) leaves uncast l = Commands (command.Grant (cell_slot o n) n m) refl l.is

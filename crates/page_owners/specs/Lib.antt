@@ -2,3 +2,4 @@ pub mod Owners
 pub mod Groups
 pub mod Runs
 pub mod Resting
+pub mod Casting

@@ -4,19 +4,23 @@
 //! The crate has definitions and proofs alone. Its functions do nothing: their contracts are the theorems.
 #![tactic(auto)]
 
+ghost use Rattle.page_owners.specs.Casting.{CastsGo, DownCastsNone, RestsKeepCast};
 ghost use Rattle.page_owners.specs.Groups.{EventsGo, FailuresGo, GroupsBegin, GroupsStart, LocksSupply, ToldGo};
 ghost use Rattle.page_owners.specs.Owners.{BeginInX, StayInX, ToldInX};
 ghost use Rattle.page_owners.specs.Resting.{DownIsBare, RestsBare, RestsLeave};
 ghost use Rattle.page_owners.specs.Runs.{RunsStand};
 
+use cache_structure::keeps_entries_apart;
 use lock_events::events_go as locks_go;
 use lock_protocol::{claims_give, keeps_sound, moves_leave_others};
 use lock_world::{books_tell, failures_are_moves, groups_begin};
 use marks_law::{claims_stay, slots_stay};
 use needs_law::sends_lawfully;
 use page_groups::{events_go as pages_go, failures_go, groups_stand, groups_start as pages_start};
-use page_members::commands_leave;
+use page_intents::castouts_go;
+use page_members::{commands_leave, writes_show};
 use page_policies::own_claims_stay;
+use page_protocol::coherent_pages;
 use page_world::pages_have_numbers;
 
 /// A member claims its pages in X, through all of its events.
@@ -109,3 +113,17 @@ pub fn resting_members_are_bare()
     ensures begin { DownIsBare }
     ensures event { RestsBare }
 {}
+
+/// So a member that has failed has no castout in hand, and each event of it leaves what it has, while its restart is in hand, but for those of a castout. These,
+/// whatever its standing and its policy, are moves of the page that it casts out, and leave all else that the group holds.
+pub fn resting_members_cast()
+    ensures down { DownCastsNone }
+    ensures keep { RestsKeepCast }
+    ensures cast { CastsGo }
+{
+    keeps_entries_apart();
+    sends_lawfully();
+    castouts_go();
+    writes_show();
+    coherent_pages();
+}

@@ -3,7 +3,7 @@ use Rattle.std.proofs.Common.{◌≡◌, ℕ, ◌+◌, ◌≤◌, refl, sym, ◌
 use Rattle.std.specs.Prelude.{◌==◌, if◌then◌else◌}
 use Rattle.std.proofs.lemmas.Bool.{cond_both, eqb-true}
 use Rattle.page_protocol.specs.Page.{Page, Group, put, read, read_disk, write, write_direct, change, castout_read, castout_write, castout_done, reclaim, drop_frame, redo, rebuild, lose, fail, owned, owned_whole, given_up, all_fail, brought_forward, compensate, risen}
-use Rattle.page_protocol.specs.Moves.{World, PageMove, Move, Read, ReadDisk, Write, WriteDirect, CastoutRead, CastoutWrite, CastoutDone, Reclaim, DropFrame, Lock, Unlock, Redo, Purge, Rebuild, At, Draw, Force, TakeSet, YieldSet, PurgeSet, Lose, ReadLog, Rebuilt, Fail, Restart, Open, GroupFail, Forward, Compensate, Append, Rise, PageStep, Step}
+use Rattle.page_protocol.specs.Moves.{World, PageMove, Move, Read, ReadDisk, Write, WriteDirect, CastoutRead, CastoutWrite, CastoutDone, Reclaim, DropFrame, Lock, Unlock, Redo, PutAside, Purge, Rebuild, At, Draw, Force, TakeSet, YieldSet, PurgeSet, Lose, ReadLog, Rebuilt, Fail, Restart, Open, GroupFail, Forward, Compensate, Append, Rise, PageStep, Step}
 use Rattle.page_protocol.specs.Coherent.{Coherent}
 use Rattle.page_protocol.specs.Down.{Grounded}
 use Rattle.page_protocol.specs.Always.{Good}
@@ -64,6 +64,7 @@ later_page g p q (DropFrame m) s st = subst (IsLater p) (sym st.1) (later_same p
 later_page g p q (Lock m) s st = subst (IsLater p) (sym st.2) (later_same p (owned p m) refl refl refl refl refl)
 later_page g p q (Unlock m) s st = subst (IsLater p) (sym st.4) (later_same p (given_up p) refl refl refl refl refl)
 later_page g p q (Redo m) s st = subst (IsLater p) (sym st.4) (later_same p (redo p m) refl refl refl refl refl)
+later_page g p q (PutAside m) s st = subst (IsLater p) (sym st.3) (later_same p (drop_frame p m) refl refl refl refl refl)
 later_page g p q (Purge m) s st = subst (IsLater p) (sym st.5) (later_same p (given_up p) refl refl refl refl refl)
 later_page g p q (Rebuild n) s st = subst (IsLater p) (sym st.2) (later_rebuild g p n s (no_earlier g p n s st.0 st.1))
 

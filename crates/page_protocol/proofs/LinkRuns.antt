@@ -3,7 +3,7 @@ use Rattle.std.proofs.Common.{◌≡◌, ℕ, ◌+◌, ◌<◌, ◌≤◌, refl,
 use Rattle.std.specs.Prelude.{◌==◌, ◌&&◌, if◌then◌else◌}
 use Rattle.std.proofs.lemmas.Bool.{cond_both, eqb-true, cases_eq, cases_lt, cases_Bool, both_ways, cond-true, cond-false, eq-eqb}
 use Rattle.page_protocol.specs.Page.{Page, Group, Up, put, read, read_disk, write, write_direct, change, castout_read, castout_write, castout_done, reclaim, drop_frame, redo, rebuild, lose, fail, owned, owned_whole, given_up, brought_forward, compensate}
-use Rattle.page_protocol.specs.Moves.{World, PageMove, Move, Read, ReadDisk, Write, WriteDirect, CastoutRead, CastoutWrite, CastoutDone, Reclaim, DropFrame, Lock, Unlock, Redo, Purge, Rebuild, At, Draw, Force, TakeSet, YieldSet, PurgeSet, Lose, ReadLog, Rebuilt, Fail, Restart, Open, GroupFail, Forward, Compensate, Append, Rise, PageStep, Step, IsWritten}
+use Rattle.page_protocol.specs.Moves.{World, PageMove, Move, Read, ReadDisk, Write, WriteDirect, CastoutRead, CastoutWrite, CastoutDone, Reclaim, DropFrame, Lock, Unlock, Redo, PutAside, Purge, Rebuild, At, Draw, Force, TakeSet, YieldSet, PurgeSet, Lose, ReadLog, Rebuilt, Fail, Restart, Open, GroupFail, Forward, Compensate, Append, Rise, PageStep, Step, IsWritten}
 use Rattle.page_protocol.specs.Coherent.{Coherent}
 use Rattle.page_protocol.specs.Always.{Stands, Good}
 use Rattle.page_protocol.specs.Words.{IsUsable, Gives}
@@ -53,6 +53,7 @@ less_page g p q (DropFrame m) s st = subst (IsNoLess p) (sym st.1) (no_less p (d
 less_page g p q (Lock m) s st = subst (IsNoLess p) (sym st.2) (no_less p (owned p m) refl refl refl refl refl)
 less_page g p q (Unlock m) s st = subst (IsNoLess p) (sym st.4) (less_part p st.1)
 less_page g p q (Redo m) s st = subst (IsNoLess p) (sym st.4) (no_less p (redo p m) refl refl refl refl refl)
+less_page g p q (PutAside m) s st = subst (IsNoLess p) (sym st.3) (no_less p (drop_frame p m) refl refl refl refl refl)
 less_page g p q (Purge m) s st = subst (IsNoLess p) (sym st.5) (less_part p st.1)
 less_page g p q (Rebuild n) s st = subst (IsNoLess p) (sym st.2) (less_rebuild p n (no_earlier g p n s st.0 st.1))
 
@@ -98,6 +99,7 @@ newly w n q (DropFrame m) links s st g = new_none w n q links (ap (λ (x : Page)
 newly w n q (Lock m) links s st g = new_none w n q links (ap (λ (x : Page). x.shared) st.2)
 newly w n q (Unlock m) links s st g = new_none w n q links (ap (λ (x : Page). x.shared) st.4)
 newly w n q (Redo m) links s st g = new_none w n q links (ap (λ (x : Page). x.shared) st.4)
+newly w n q (PutAside m) links s st g = new_none w n q links (ap (λ (x : Page). x.shared) st.3)
 newly w n q (Purge m) links s st g = new_none w n q links (ap (λ (x : Page). x.shared) st.5)
 newly w n q (Rebuild k) links s st g = new_lost w n q links st.0
 

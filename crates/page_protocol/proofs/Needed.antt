@@ -3,8 +3,9 @@ use Rattle.std.proofs.Common.{◌≡◌, ℕ, ◌<◌, ◌∙◌, inl, inr, arit
 use Rattle.std.specs.Prelude.{◌==◌, ◌&&◌}
 use Rattle.std.proofs.lemmas.Bool.{cases_Bool, cond-true, cond-false}
 use Rattle.page_protocol.specs.Page.{put, write}
+use Rattle.page_protocol.specs.Moves.{restarting}
 use Rattle.page_protocol.specs.Coherent.{Coherent}
-use Rattle.page_protocol.specs.Needed.{all_up_with, in_hand, taken_over, after_rebuild, lost_with_two, while_lost, direct_while_lost, read_before, InvalidationIsNeeded, StableIsNeeded, WrittenIsNeeded, BitIsNeeded, CastoutLockIsNeeded, AllLogsAreNeeded, CacheIsNeeded, ComparisonIsNeeded, both_in_hand, one_link, OrderIsNeeded, valid_elsewhere, UnusedIsNeeded, one_restarting, to_recover, RecoveryIsNeeded}
+use Rattle.page_protocol.specs.Needed.{all_up_with, in_hand, taken_over, after_rebuild, lost_with_two, while_lost, direct_while_lost, read_before, InvalidationIsNeeded, StableIsNeeded, RestingIsNeeded, AsideIsStable, WrittenIsNeeded, BitIsNeeded, CastoutLockIsNeeded, AllLogsAreNeeded, CacheIsNeeded, ComparisonIsNeeded, both_in_hand, one_link, OrderIsNeeded, valid_elsewhere, UnusedIsNeeded, one_restarting, to_recover, RecoveryIsNeeded}
 use Rattle.page_protocol.specs.Always.{Good}
 use Rattle.page_protocol.specs.Links.{Link, LinkHolds, Linked}
 use Rattle.page_protocol.specs.Redo.{Bytes}
@@ -14,6 +15,9 @@ two_stable = grind arith
 
 one_stable : Coherent (all_up_with 1 2) in_hand
 one_stable = grind arith
+
+one_rests : Coherent (restarting (all_up_with 1 2) 1) in_hand
+one_rests = grind arith
 
 taken : Coherent (all_up_with 2 2) taken_over
 taken = grind arith
@@ -32,6 +36,12 @@ invalidation = record { coherent = two_stable; marked = refl; stable = grind ari
 
 pub stable : StableIsNeeded
 stable = record { coherent = one_stable; marked = refl; breaks = λ s. absurd (let e = s.stable 1 (omega arith) in omega (arith, e)) }
+
+pub resting : RestingIsNeeded
+resting = record { coherent = two_stable; marked = refl; stable = grind arith; breaks = λ s. absurd (let e = s.newest 1 refl (omega arith) refl in cc) }
+
+pub aside : AsideIsStable
+aside = record { coherent = one_rests; marked = refl; breaks = λ s. absurd (let e : 1 < 1 = s.resting_stable 1 refl refl refl 1 (omega arith) in omega (arith, e)) }
 
 pub written : WrittenIsNeeded
 written = record { coherent = two_stable; own = refl; breaks = λ s. absurd (let e = s.own 1 (omega arith) (omega arith) in cc) }

@@ -3,12 +3,12 @@ use Rattle.std.proofs.Common.{◌≡◌, ℕ, ◌+◌, ◌<◌, refl, sym, subst
 use Rattle.std.specs.Prelude.{◌≢◌, ◌==◌, if◌then◌else◌}
 use Rattle.std.proofs.lemmas.Bool.{cond_both}
 use Rattle.page_protocol.specs.Page.{Page, Group, Failed, put, read, change, owned_whole, given_up}
-use Rattle.page_protocol.specs.Moves.{World, PageMove, Move, Read, ReadDisk, Write, WriteDirect, CastoutRead, CastoutWrite, CastoutDone, Reclaim, DropFrame, Lock, Unlock, Redo, Purge, Rebuild, At, Draw, Force, TakeSet, YieldSet, PurgeSet, Lose, ReadLog, Rebuilt, Fail, Restart, Open, GroupFail, Forward, Compensate, Append, Rise, PageStep, Step, MayUse, MayBeDirect, IsWholeCut, drawn, all_failed, start}
+use Rattle.page_protocol.specs.Moves.{World, PageMove, Move, Read, ReadDisk, Write, WriteDirect, CastoutRead, CastoutWrite, CastoutDone, Reclaim, DropFrame, Lock, Unlock, Redo, PutAside, Purge, Rebuild, At, Draw, Force, TakeSet, YieldSet, PurgeSet, Lose, ReadLog, Rebuilt, Fail, Restart, Open, GroupFail, Forward, Compensate, Append, Rise, PageStep, Step, MayUse, MayBeDirect, IsWholeCut, drawn, all_failed, start}
 use Rattle.page_protocol.specs.Page.{all_fail}
 use Rattle.page_protocol.specs.Coherent.{Coherent}
 use Rattle.page_protocol.specs.Down.{Grounded}
 use Rattle.page_protocol.specs.Always.{Stands, Ordered, Numbered, Good, AlwaysGood}
-use Rattle.page_protocol.proofs.Steps.{kept_read_none, kept_read_some, kept_read_disk, kept_write, kept_write_direct, kept_castout_read, kept_castout_write, kept_castout_done, kept_reclaim, kept_drop_frame, kept_lock, kept_unlock, kept_redo, kept_purge, no_earlier, kept_rebuild, kept_lose, kept_take_set, kept_yield_set, kept_purge_set}
+use Rattle.page_protocol.proofs.Steps.{kept_read_none, kept_read_some, kept_read_disk, kept_write, kept_write_direct, kept_castout_read, kept_castout_write, kept_castout_done, kept_reclaim, kept_drop_frame, kept_lock, kept_unlock, kept_redo, kept_put_aside, kept_purge, no_earlier, kept_rebuild, kept_lose, kept_take_set, kept_yield_set, kept_purge_set}
 use Rattle.page_protocol.proofs.Whole.{kept_force, kept_log_read, all_read, kept_rebuilt, kept_restart, kept_open, kept_change, kept_drawn, kept_fail, kept_start}
 use Rattle.page_protocol.proofs.Down.{falls, falls_again, forwards, compensates, waits, rises}
 use Rattle.page_protocol.proofs.Order.{ordered_change, ordered_compensate, ordered_fail, ordered_all_fail, numbered_change, numbered_drawn, numbered_compensate, numbered_longer, numbered_same, numbered_all_fail}
@@ -30,6 +30,7 @@ kept_page g p q (DropFrame m) s st = subst (Coherent g) (sym st.1) (kept_drop_fr
 kept_page g p q (Lock m) s st = subst (Coherent g) (sym st.2) (kept_lock g p m s st.0 st.1)
 kept_page g p q (Unlock m) s st = subst (Coherent g) (sym st.4) (kept_unlock g p m s st.0 st.1 st.2 st.3)
 kept_page g p q (Redo m) s st = subst (Coherent g) (sym st.4) (kept_redo g p m s st.0 st.1)
+kept_page g p q (PutAside m) s st = subst (Coherent g) (sym st.3) (kept_put_aside g p m s st.0 st.1 st.2)
 kept_page g p q (Purge m) s st = subst (Coherent g) (sym st.5) (kept_purge g p m s st.0 st.1 st.2 st.3 st.4)
 kept_page g p q (Rebuild n) s st = subst (Coherent g) (sym st.2) (kept_rebuild g p n s st.0 st.1 (no_earlier g p n s st.0 st.1))
 
@@ -46,6 +47,7 @@ ordered_page g p q (DropFrame m) s st = subst Ordered (sym st.1) s
 ordered_page g p q (Lock m) s st = subst Ordered (sym st.2) s
 ordered_page g p q (Unlock m) s st = subst Ordered (sym st.4) s
 ordered_page g p q (Redo m) s st = subst Ordered (sym st.4) s
+ordered_page g p q (PutAside m) s st = subst Ordered (sym st.3) s
 ordered_page g p q (Purge m) s st = subst Ordered (sym st.5) s
 ordered_page g p q (Rebuild n) s st = subst Ordered (sym st.2) s
 
@@ -62,6 +64,7 @@ numbered_page g p q (DropFrame m) s st = subst (Numbered g) (sym st.1) (numbered
 numbered_page g p q (Lock m) s st = subst (Numbered g) (sym st.2) (numbered_same g g p _ refl (omega arith) refl s)
 numbered_page g p q (Unlock m) s st = subst (Numbered g) (sym st.4) (numbered_same g g p _ refl (omega arith) refl s)
 numbered_page g p q (Redo m) s st = subst (Numbered g) (sym st.4) (numbered_same g g p _ refl (omega arith) refl s)
+numbered_page g p q (PutAside m) s st = subst (Numbered g) (sym st.3) (numbered_same g g p _ refl (omega arith) refl s)
 numbered_page g p q (Purge m) s st = subst (Numbered g) (sym st.5) (numbered_same g g p _ refl (omega arith) refl s)
 numbered_page g p q (Rebuild n) s st = subst (Numbered g) (sym st.2) (numbered_same g g p _ refl (omega arith) refl s)
 

@@ -3,7 +3,7 @@ use Rattle.std.proofs.Common.{◌≡◌, ℕ, ◌+◌, refl, sym, ◌∙◌, sub
 use Rattle.std.specs.Prelude.{◌==◌, if◌then◌else◌}
 use Rattle.std.proofs.lemmas.Bool.{cond_both, eqb-true, cases_Bool, both_ways}
 use Rattle.page_protocol.specs.Page.{Page, Group, put, read, read_disk, write, write_direct, change, castout_read, castout_write, castout_done, reclaim, drop_frame, redo, rebuild, lose, fail, owned, owned_whole, given_up, brought_forward, compensate, risen}
-use Rattle.page_protocol.specs.Moves.{World, PageMove, Move, Read, ReadDisk, Write, WriteDirect, CastoutRead, CastoutWrite, CastoutDone, Reclaim, DropFrame, Lock, Unlock, Redo, Purge, Rebuild, At, Draw, Force, TakeSet, YieldSet, PurgeSet, Lose, ReadLog, Rebuilt, Fail, Restart, Open, GroupFail, Forward, Compensate, Append, Rise, PageStep, Step}
+use Rattle.page_protocol.specs.Moves.{World, PageMove, Move, Read, ReadDisk, Write, WriteDirect, CastoutRead, CastoutWrite, CastoutDone, Reclaim, DropFrame, Lock, Unlock, Redo, PutAside, Purge, Rebuild, At, Draw, Force, TakeSet, YieldSet, PurgeSet, Lose, ReadLog, Rebuilt, Fail, Restart, Open, GroupFail, Forward, Compensate, Append, Rise, PageStep, Step}
 use Rattle.page_protocol.specs.Coherent.{Coherent}
 use Rattle.page_protocol.specs.Always.{Good}
 use Rattle.page_protocol.specs.Sets.{SetsAgree, AlwaysAgree}
@@ -35,6 +35,7 @@ held_page g p q (DropFrame m) s st = subst (IsHeldSame p) (sym st.1) (held p (dr
 held_page g p q (Lock m) s st = subst (IsHeldSame p) (sym st.2) (held_lock g p m s st.0)
 held_page g p q (Unlock m) s st = subst (IsHeldSame p) (sym st.4) (held_part p st.1)
 held_page g p q (Redo m) s st = subst (IsHeldSame p) (sym st.4) (held p (redo p m) refl refl)
+held_page g p q (PutAside m) s st = subst (IsHeldSame p) (sym st.3) (held p (drop_frame p m) refl refl)
 held_page g p q (Purge m) s st = subst (IsHeldSame p) (sym st.5) (held_part p st.1)
 held_page g p q (Rebuild n) s st = subst (IsHeldSame p) (sym st.2) (held p (rebuild p n) refl refl)
 

@@ -44,6 +44,9 @@ kept_unlock g p m s own part up unmarked = grind arith
 pub kept_redo : (g : Group) (p : Page) (m : ℕ) → Coherent g p → p.owner ≡ Some m → g.status m ≡ Restarting → Coherent g (redo p m)
 kept_redo g p m s own up = grind arith
 
+pub kept_put_aside : (g : Group) (p : Page) (m : ℕ) → Coherent g p → g.status m ≡ Restarting → (p.frame m).marked ≡ true → AllStable g p p.last → Coherent g (drop_frame p m)
+kept_put_aside g p m s up marked stable = grind arith
+
 pub kept_purge : (g : Group) (p : Page) (m : ℕ) → Coherent g p → p.owner ≡ Some m → p.sole ≡ false → g.status m ≡ Restarting → (p.frame m).marked ≡ false → IsWritten g p m → Coherent g (given_up p)
 kept_purge g p m s own part up unmarked done = grind arith
 

@@ -40,6 +40,7 @@ gives g p s = record {
     in_log = λ i a b. s.written i b;
     in_frame = λ m own more up. let h = in_hand m own more up in (s.marked_filled m h, s.marked_last m h);
     on_disk = λ m own failed. s.failed_stable m failed own;
+    resting = λ m own rests clean. s.resting_stable m rests own clean;
   };
   stable_before_shared = (λ i lt. let a = copy_old g p s in s.stable i (omega (arith, a, lt)), λ i lt. let a = s.disk_old in s.stable i (omega (arith, a, lt)));
   disk_is_no_later = record {

@@ -1,6 +1,6 @@
 -- What holds of each page after every move, while the group runs.
 use Rattle.std.specs.Prelude.{◌≡◌, ◌≢◌, ℕ, ◌<◌, ◌≤◌, true, false, Some, None, IsSome}
-use Rattle.page_protocol.specs.Page.{Page, Group, Up, Failed, group_copy, AllStable}
+use Rattle.page_protocol.specs.Page.{Page, Group, Up, Failed, Restarting, group_copy, AllStable}
 
 -- the castout's buffer, while its castout lock is held
 pub record IsCasting (p : Page) : Type 0 where
@@ -26,6 +26,7 @@ pub record Coherent (g : Group) (p : Page) : Type 0 where
   pub stable : AllStable g p p.shared
   pub written : (i : ℕ) → i < p.last → p.place i < g.written (p.author i)
   pub failed_stable : (m : ℕ) → g.status m ≡ Failed → p.owner ≡ Some m → AllStable g p p.last
+  pub resting_stable : (m : ℕ) → g.status m ≡ Restarting → p.owner ≡ Some m → (p.frame m).marked ≡ false → AllStable g p p.last
   pub forced : (m : ℕ) → g.stable m ≤ g.written m
   pub read_stable : (m : ℕ) → g.lost ≡ true → g.read m ≤ g.stable m
   pub read_shared : (i : ℕ) → g.lost ≡ true → i < p.shared → p.place i < g.read (p.author i)

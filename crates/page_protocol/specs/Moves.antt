@@ -22,6 +22,7 @@ pub data PageMove : Type 0 where
   Lock : ℕ → PageMove
   Unlock : ℕ → PageMove
   Redo : ℕ → PageMove
+  PutAside : ℕ → PageMove
   Purge : ℕ → PageMove
   Rebuild : ℕ → PageMove
 
@@ -93,6 +94,8 @@ PageStep g p (Lock m) q = (p.owner ≡ None) × (g.status m ≢ Failed) × (q �
 PageStep g p (Unlock m) q = (p.owner ≡ Some m) × (p.sole ≡ false) × (g.status m ≡ Up) × ((p.frame m).marked ≡ false) × (q ≡ given_up p)
 -- forward recovery of a page or set that the restarting member retains, over a frame that is registered and filled
 PageStep g p (Redo m) q = (p.owner ≡ Some m) × (g.status m ≡ Restarting) × ((p.frame m).filled ≡ true) × (p.bit m ≡ true) × (q ≡ redo p m)
+-- a restart puts aside a page that it has changed, and still owns: it knows its own standing, frame and log, in which all its changes stand on disk
+PageStep g p (PutAside m) q = (g.status m ≡ Restarting) × ((p.frame m).marked ≡ true) × AllStable g p p.last × (q ≡ drop_frame p m)
 -- a restart gives a page up: its own log's changes of it are in the group's copy, as their numbers show
 PageStep g p (Purge m) q = (p.owner ≡ Some m) × (p.sole ≡ false) × (g.status m ≡ Restarting) × ((p.frame m).marked ≡ false) × IsWritten g p m × (q ≡ given_up p)
 -- the claimant of the rebuild, by redo of the records that it read after the loss

@@ -1,6 +1,6 @@
 -- Guards without which a coherent state is left: for each a state and a move that lacks it.
 use Rattle.std.specs.Prelude.{◌≡◌, ◌≢◌, ℕ, ◌+◌, true, false, [], ◌∷◌, filter, Some, None, if◌then◌else◌, ◌==◌, ◌&&◌}
-use Rattle.page_protocol.specs.Page.{Page, Group, Frame, Up, put, AllStable, unfilled, holding, write, write_direct, change, castout_write, given_up, owned_whole}
+use Rattle.page_protocol.specs.Page.{Page, Group, Frame, Up, put, AllStable, unfilled, holding, write, write_direct, change, castout_write, drop_frame, given_up, owned_whole}
 use Rattle.page_protocol.specs.Moves.{World, IsRead, with_cache, drawn, restarting, opened}
 use Rattle.page_protocol.specs.Always.{Good}
 use Rattle.page_protocol.specs.Links.{Links, Linked}
@@ -53,6 +53,19 @@ pub record StableIsNeeded : Type 0 where
   pub coherent : Coherent (all_up_with 1 2) in_hand
   pub marked : (in_hand.frame 1).marked ≡ true
   pub breaks : Coherent (all_up_with 1 2) (write in_hand 1) → ⊥
+
+-- ---- a changed page is put aside only by a member that restarts, and only when its log records are stable
+
+pub record RestingIsNeeded : Type 0 where
+  pub coherent : Coherent (all_up_with 2 2) in_hand
+  pub marked : (in_hand.frame 1).marked ≡ true
+  pub stable : AllStable (all_up_with 2 2) in_hand in_hand.last
+  pub breaks : Coherent (all_up_with 2 2) (drop_frame in_hand 1) → ⊥
+
+pub record AsideIsStable : Type 0 where
+  pub coherent : Coherent (restarting (all_up_with 1 2) 1) in_hand
+  pub marked : (in_hand.frame 1).marked ≡ true
+  pub breaks : Coherent (restarting (all_up_with 1 2) 1) (drop_frame in_hand 1) → ⊥
 
 -- ---- a page is given up only when its changes were written
 

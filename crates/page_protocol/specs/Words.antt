@@ -1,6 +1,6 @@
 -- What coherence gives to the layers above, each fact by its name.
 use Rattle.std.specs.Prelude.{◌≡◌, ℕ, ◌<◌, ◌≤◌, ◌⊎◌, true, false, List, Some, None}
-use Rattle.page_protocol.specs.Page.{Page, Group, Up, Failed, AllStable, group_copy, copy_before}
+use Rattle.page_protocol.specs.Page.{Page, Group, Up, Failed, Restarting, AllStable, group_copy, copy_before}
 use Rattle.page_protocol.specs.Moves.{World, Move, Rebuilt, Rise, Step, Run, IsRead, IsCut, IsWholeCut, AreDrawnBy}
 use Rattle.page_protocol.specs.Coherent.{Coherent}
 use Rattle.page_protocol.specs.Down.{Grounded}
@@ -27,13 +27,14 @@ NewestAllowed g p = (m : ℕ) → IsUsable g p m → ((p.frame m).version ≡ p.
 abbrev pub FindsOwn : Group → Page → Type 0
 FindsOwn g p = (m i : ℕ) → IsUsable g p m → g.status m ≡ Up → (i < p.shared) ⊎ ((i < p.last) × (p.author i ≡ m)) → i < (p.frame m).version
 
--- changes that aren't shared are the owner's, and are in its frame, or on disk in its log if it is failed; while the cache
--- is lost the same holds of changes that aren't in the copy that stood before the loss
+-- changes that aren't shared are the owner's, and are in its frame, or on disk in its log if it is failed, or restarts and has
+-- not changed its frame; while the cache is lost the same holds of changes that aren't in the copy that stood before the loss
 pub record AreTheOwners (g : Group) (p : Page) : Type 0 where
   pub author : (i : ℕ) → copy_before g p ≤ i → i < p.last → p.owner ≡ Some (p.author i)
   pub in_log : (i : ℕ) → copy_before g p ≤ i → i < p.last → p.place i < g.written (p.author i)
   pub in_frame : (m : ℕ) → p.owner ≡ Some m → copy_before g p < p.last → g.status m ≡ Up → ((p.frame m).filled ≡ true) × ((p.frame m).version ≡ p.last)
   pub on_disk : (m : ℕ) → p.owner ≡ Some m → g.status m ≡ Failed → AllStable g p p.last
+  pub resting : (m : ℕ) → p.owner ≡ Some m → g.status m ≡ Restarting → (p.frame m).marked ≡ false → AllStable g p p.last
 
 -- each change in the group's copy and on disk stands in a log on disk
 abbrev pub StableBeforeShared : Group → Page → Type 0

@@ -14,7 +14,7 @@ ghost use Rattle.page_protocol.specs.Sets.{AlwaysAgree};
 ghost use Rattle.page_protocol.specs.Frames.{TestTells, Places, TakesOut, Registers, Unregisters, FindsClear, Drops, Empties};
 ghost use Rattle.page_protocol.specs.Links.{AlwaysLinked, LinksLead};
 ghost use Rattle.page_protocol.specs.Bytes.{RestartReachesLast, RebuildReachesRead, GroupRestartReachesLast};
-ghost use Rattle.page_protocol.specs.Needed.{InvalidationIsNeeded, StableIsNeeded, WrittenIsNeeded, BitIsNeeded, CastoutLockIsNeeded, AllLogsAreNeeded, CacheIsNeeded, ComparisonIsNeeded, OrderIsNeeded, UnusedIsNeeded, RecoveryIsNeeded};
+ghost use Rattle.page_protocol.specs.Needed.{InvalidationIsNeeded, StableIsNeeded, RestingIsNeeded, AsideIsStable, WrittenIsNeeded, BitIsNeeded, CastoutLockIsNeeded, AllLogsAreNeeded, CacheIsNeeded, ComparisonIsNeeded, OrderIsNeeded, UnusedIsNeeded, RecoveryIsNeeded};
 ghost use Rattle.page_protocol.specs.Redo.{OwnLogSuffices, MergedLogsSuffice, RedoneOnce};
 
 /// The start over empty disks is coherent, the opening over any sound disk is ready for group restart, each move keeps
@@ -54,13 +54,16 @@ pub fn redo_laws()
 {}
 
 /// Guards without which pages don't stay coherent: a write invalidates all other frames, a page is written only when its
-/// log records are stable, it is given up only when it was written, it is changed only where the bit is set, a castout's
-/// disk write is done under its lock, a rebuild merges all logs, a sole user writes to disk only while the cache is
-/// there, redo compares numbers, a page is written after the pages that it points to, a page set is taken whole only where
-/// nobody has frames of it, and a member opens only when its forward recovery has ended.
+/// log records are stable, a changed page is put aside only by a member that restarts, and only when its log records are
+/// stable, it is given up only when it was written, it is changed only where the bit is set, a castout's disk write is done
+/// under its lock, a rebuild merges all logs, a sole user writes to disk only while the cache is there, redo compares
+/// numbers, a page is written after the pages that it points to, a page set is taken whole only where nobody has frames of
+/// it, and a member opens only when its forward recovery has ended.
 pub fn guards_are_needed()
     ensures invalidation { InvalidationIsNeeded }
     ensures stable { StableIsNeeded }
+    ensures resting { RestingIsNeeded }
+    ensures aside { AsideIsStable }
     ensures written { WrittenIsNeeded }
     ensures bit { BitIsNeeded }
     ensures castout_lock { CastoutLockIsNeeded }

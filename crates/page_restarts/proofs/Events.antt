@@ -47,7 +47,7 @@ use Rattle.restart_marks.specs.Hands.{filled_after, written_after}
 use Rattle.restart_marks.specs.Listing.{page_freed, record_after}
 use Rattle.restart_marks.specs.Locks.{claim_after}
 use Rattle.restart_marks.specs.LockNeeds.{undo_command}
-use Rattle.restart_marks.specs.Moves.{Local, TakeUpRetained, TakeUpUndone, PutDown, Close, Reaches, all_moved, may_close, may_put_down, moved, retained_from, undone_from}
+use Rattle.restart_marks.specs.Moves.{Local, TakeUpRetained, TakeUpUndone, PutDown, Close, Reaches, all_moved, is_recovered, may_close, may_put_down, moved, retained_from, undone_from}
 use Rattle.restart_marks.specs.Needs.{need_of}
 use Rattle.restart_marks.specs.OwnNeeds.{call_sent, is_end_listed, recovered_test}
 use Rattle.restart_marks.specs.State.{RestartState, no_hand, with_hand, with_log}
@@ -70,7 +70,7 @@ use Rattle.page_intents.specs.Logs.{all_forced}
 use Rattle.page_members.specs.Members.{Shows, leaves_pages}
 use Rattle.page_restarts.specs.Beside.{Beside, as_restarting}
 use Rattle.page_restarts.specs.Bringing.{Forwards}
-use Rattle.page_restarts.specs.Locals.{CastsNone, MayPark}
+use Rattle.page_restarts.specs.Locals.{MayPark}
 use Rattle.page_restarts.specs.Events.{EventsGo, IsGiven, IsQuiet, MayGiveUp, MayTake, MayUndo, Owns, asks_page, frees_page, gives_page, is_granted, takes_page}
 use Rattle.page_restarts.specs.Stands.{GoesAlong, SameHand, behind}
 use Rattle.page_restarts.specs.Undoes.{IsUndone, undone_behind}
@@ -290,7 +290,7 @@ record Made (w : World) (v : Outside) (g : Holdings) (content : ℕ → ℕ → 
   pub led : Led w v g content forced h k owned
   pub owns : Owns g.owner owned h.marks.member s a
 
-module _ (facts : Facts) (w : World) (u v : Outside) (g : Holdings) (content : ℕ → ℕ → List ℕ) (forced : ℕ → ℕ) (h k : Held) (a : Answered) (said : RestartTold) (b : Beside w u g content forced h) (quiet : IsQuiet g h k a) (works : a ≢ answered.Failed) where
+module _ (facts : Facts) (w : World) (u v : Outside) (g : Holdings) (content : ℕ → ℕ → List ℕ) (forced : ℕ → ℕ) (h k : Held) (a : Answered) (said : RestartTold) (b : Beside w u g content forced h) (quiet : IsQuiet g h k) (works : a ≢ answered.Failed) where
   abbrev Goes : Type 0
   Goes = Led w v g content forced h k g.owner
 
@@ -484,7 +484,7 @@ module _ (facts : Facts) (w : World) (u v : Outside) (g : Holdings) (content : �
       let m = h.marks.member in
       subst (λ (z : Held). Led w v g content forced h z g.owner) (sym is)
       (made facts.good w u v g (all_forced g m) content content forced (put forced m h.marks.log.last) h (with_marks h (forced_after h.marks)) b (facts.append w g content forced h b.begins)
-      (b.facility ∙ sym same) (pages_on on.0 on.1 (ap (λ (z : Contents). z.pages) on.2.1)) b.begins.sound b.read (others_forced g forced m h.marks.log.last) (λ n i l. refl) (λ c e. cond-true (m == m) (g.written m) (g.stable m) (eq-eqb m m refl)))
+      (b.facility ∙ sym same) (pages_on on.0 on.1 (ap (λ (z : Contents). z.pages) on.2.1)) b.begins.sound b.read (others_forced g forced m h.marks.log.last) (λ n i l. refl) refl (λ no e. cond-true (m == m) (g.written m) (g.stable m) (eq-eqb m m refl)) (λ c e. cond-true (m == m) (g.written m) (g.stable m) (eq-eqb m m refl)))
 
   -- ---- what follows the whole records is cut
   cuts : (long : ℕ) → RunsCall (as_restarting u).drive h (sent.CutLog long) a said (as_restarting v).drive k → v.facility ≡ u.facility → Goes
@@ -499,9 +499,9 @@ module _ (facts : Facts) (w : World) (u v : Outside) (g : Holdings) (content : �
       (record { member = refl; log = refl; page = refl; copy = refl; last = refl }) b.read (subst (λ (z : Held). Level g h.marks.member z) is level))
 
   -- ---- a change is taken back
-  undoes : (id : ℕ) (p : PageId) → h.marks.hand.page ≡ Some p → h.marks.hand.filled ≡ true → (r : RunsCommand u.facility h (intent.Undo id) undo_command a said v.facility k) → (as_restarting v).drive ≡ (as_restarting u).drive
+  undoes : (id : ℕ) (p : PageId) → h.marks.hand.page ≡ Some p → h.marks.hand.filled ≡ true → is_recovered h.marks ≡ true → (r : RunsCommand u.facility h (intent.Undo id) undo_command a said v.facility k) → (as_restarting v).drive ≡ (as_restarting u).drive
       → ((number : ℕ) → r.answer ≡ reply.Drawn number → MayUndo w g h (settle_undo_after r.after id r.answer) p number) → Goes
-  undoes id p placed filled r drive may = elim (undo_answer (first_stale g.facility.directory h.marks.member (0 ∷ [])) g.facility.counter r.answer draws.0) [
+  undoes id p placed filled recovered r drive may = elim (undo_answer (first_stale g.facility.directory h.marks.member (0 ∷ [])) g.facility.counter r.answer draws.0) [
     | inl it ↦ drawn (g.facility.counter + 1) it.0 it.1
     | inr it ↦ stale it.0 it.1 it.2
   ]
@@ -528,7 +528,7 @@ module _ (facts : Facts) (w : World) (u v : Outside) (g : Holdings) (content : �
           refl (drive_on drive) (subst (λ (f : Facility). IsSound f.directory) (sym draws.1) b.begins.sound) (ap (λ (z : OwnState). z.is_read) own ∙ b.read)
           (others_undone g v.facility forced m k (record { members = ap (λ (f : Facility). f.lists.members) draws.1; statuses = ap (λ (f : Facility). f.lists.statuses) draws.1; counter = counter }))
           (λ j i l. cond-false ((j == n) && (i == (w.pages j).last + 1)) k.page (content j i) (false_from_ne_true ((j == n) && (i == (w.pages j).last + 1)) (λ z. beyond i (w.pages j).last l (eqb-true i ((w.pages j).last + 1) (and_parts (j == n) (i == (w.pages j).last + 1) z).1))))
-          (λ c e. absurd (quiet.undrawn number c e (r.is ∙ ap answered.Reply is)))
+          refl (λ no e. absurd (both_ways (is_recovered h.marks) no recovered)) (λ c e. absurd (both_ways (is_recovered h.marks) (quiet.unrecovered c e) recovered))
 
       stale : (index : ℕ) → first_stale g.facility.directory h.marks.member (0 ∷ []) ≡ Some index → r.answer ≡ reply.Stale index → Goes
       stale index some is =
@@ -625,7 +625,7 @@ module _ (facts : Facts) (w : World) (u v : Outside) (g : Holdings) (content : �
   by_intent (intent.Undo id) s e up r given =
       let x = undoes_hand h.marks s (newest h.marks.trans id) e in
       let q = ran (intent.Undo id) s (sent.Command undo_command) x.is r in
-      kept_by s undo_command x.is (λ n. refl) (λ n. refl) (undoes id x.page x.placed x.filled q.0 q.1 (λ number is. given undo_command x.is q.0 number x.page is x.placed))
+      kept_by s undo_command x.is (λ n. refl) (λ n. refl) (undoes id x.page x.placed x.filled x.recovered q.0 q.1 (λ number is. given undo_command x.is q.0 number x.page is x.placed))
   by_intent intent.ReleasePage s e up r given =
       let x = releases_page h.marks s h.marks.claim refl e in
       let c = command.Release (name.Page x.page) (record { share = false; exclusive = false }) in
@@ -645,6 +645,6 @@ events_go facts w u v g content forced h k s a b happens up supplied =
     let did = by_intent facts w u v g content forced h mid a happens.said b supplied.quiet supplied.works happens.intent s happens.lawful up happens.runs supplied.given in
     let led = did.led in
     let own : k.marks.own ≡ mid.marks.own = own_reaches mid.marks k.marks happens.ends.0 in
-    let park : MayPark led.leads.left mid = λ c e. subst (λ z. (led.leads.left.stable z ≡ led.leads.left.written z) × CastsNone led.leads.left z) (sym led.leads.same) (led.level c e, led.uncast (supplied.quiet.uncast c e)) in
+    let park : MayPark led.leads.left mid = λ c e. subst (λ z. led.leads.left.stable z ≡ led.leads.left.written z) (sym led.leads.same) (led.level c e) in
     let on = ended facts w v g content forced h mid k led.leads park happens.ends (ap (λ (z : OwnState). z.is_read) own ∙ led.leads.beside.read) in
     record { leads = on.leads; owns = subst (λ z. Owns g.owner z h.marks.member s a) (sym (on.owner ∙ led.owner)) did.owns }

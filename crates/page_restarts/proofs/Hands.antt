@@ -27,17 +27,18 @@ use Rattle.restart_resources.specs.Forward.{own_forward}
 use Rattle.restart_resources.specs.Held.{Held, with_marks, with_page}
 use Rattle.restart_resources.specs.Settled.{bring_after, brought_after, noted, read_in, tested_in}
 use Rattle.page_protocol.specs.Page.{Page, Group, AllStable}
-use Rattle.page_protocol.specs.Moves.{World, At, DropFrame, Read, ReadDisk, Redo, Write}
+use Rattle.page_protocol.specs.Moves.{World, At, DropFrame, PutAside, Read, ReadDisk, Redo, Write}
 use Rattle.page_protocol.specs.Always.{Stands}
 use Rattle.page_protocol.specs.Coherent.{Coherent}
 use Rattle.page_world.specs.Cache.{FindsMoves, RegistersMoves, WritesMoves, empty_copy, entry_moves, found_copy, written_copy}
-use Rattle.page_world.specs.Frames.{FillsMoves, LeavesMoves, PlacesStays, RedoesMoves, filled_copy, placed_copy, redone_copy}
+use Rattle.page_world.specs.Frames.{AsideMoves, FillsMoves, LeavesMoves, PlacesStays, RedoesMoves, filled_copy, placed_copy, redone_copy}
 use Rattle.page_world.specs.Holdings.{Copy, no_copy, Holdings, held_of, with_copy}
 use Rattle.page_world.specs.Numbers.{page_at, page_number}
 use Rattle.page_world.specs.Refusals.{ReadRefused, WriteRefused}
 use Rattle.page_world.specs.Tied.{PageTied, Tied, bit_in}
 use Rattle.page_restarts.specs.Stands.{Begins, GoesAlong, behind, hand_copy}
 use Rattle.page_restarts.specs.Hands.{FillGoes, ForwardGoes, PutsDown, ReadGoes, TakesUp, TestGoes, WriteGoes}
+use Rattle.page_restarts.specs.Locals.{PutsAside}
 use Rattle.page_restarts.proofs.Chains.{at_entry, at_none, at_one}
 use Rattle.page_restarts.proofs.Standing.{SameMembers, copy_here, copy_none, copy_there, goes_by, has_copy, has_frame, is_live_restarting, leaves_hand, quiet_by, same_members}
 
@@ -141,6 +142,43 @@ puts_down law w g content forced h b clean = by h.marks.hand.page refl
         goes_by w g content forced g.facility h t n no_copy (At n (DropFrame m) ∷ []) b.numbered b.restarts
         (record { member = refl; log = refl; own = refl; full = λ x. absurd (cc x); shows = λ x. absurd (cc x); here = refl; there = λ j ne. sym (copy_there h p j e ne) }) (unchanged g.facility) (at_one n (DropFrame m) refl)
         (law w g content m n b.tied (ap (λ (x : Copy). x.marked) c ∙ clean))
+
+-- a changed one, where all records that its member has drawn are on disk
+pub coherent : (g : Group) (p : Page) (b : Bool) → b ≡ false → Stands b g p → Coherent g p
+coherent g p true e s = absurd (cc e)
+coherent g p false e s = s
+
+own_stable : (g : Group) (p : Page) (m : ℕ) → Coherent g p → (p.frame m).marked ≡ true → g.stable m ≡ g.written m → AllStable g p p.last
+own_stable g p m co marked level i l = elim (cases_lt i p.shared) [
+  | inl less ↦ co.stable i less
+  | inr le ↦ (let own : p.author i ≡ m = same_Some (p.author i) m (sym (co.own i le l) ∙ co.marked_own m marked) in
+      let there = co.written i l in
+      subst (λ z. p.place i < z) (ap g.written own ∙ sym level ∙ sym (ap g.stable own)) there)
+]
+
+pub puts_aside : AsideMoves → PutsAside
+puts_aside law w g content forced h b changed level = by h.marks.hand.page refl
+  where
+    m : ℕ
+    m = h.marks.member
+
+    t : Held
+    t = with_marks h (with_hand h.marks no_hand)
+
+    world_level : w.group.stable h.marks.member ≡ w.group.written h.marks.member
+    world_level = b.tied.stable h.marks.member ∙ level ∙ sym (b.tied.written h.marks.member)
+
+    by : (o : Option PageId) → h.marks.hand.page ≡ o → GoesAlong w content forced (behind g g.facility h.marks.member t) h t
+    by None e =
+        quiet_by w g content forced g.facility h t 0 b.tied b.numbered b.restarts
+        (record { member = refl; log = refl; own = refl; full = λ x. absurd (cc x); shows = λ x. absurd (cc x); here = sym (b.restarts.copies 0 ∙ copy_none h 0 e); there = λ j ne. sym (copy_none h j e) }) refl
+    by (Some p) e =
+        let n = page_number p in
+        let marked = ap (λ (x : Copy). x.marked) (has_copy g forced h p b.restarts e) ∙ changed in
+        goes_by w g content forced g.facility h t n no_copy (At n (PutAside m) ∷ []) b.numbered b.restarts
+        (record { member = refl; log = refl; own = refl; full = λ x. absurd (cc x); shows = λ x. absurd (cc x); here = refl; there = λ j ne. sym (copy_there h p j e ne) }) (unchanged g.facility) (at_one n (PutAside m) refl)
+        (law w g content m n b.tied b.restarts.least b.restarts.among b.restarts.restarts marked
+        (own_stable w.group (w.pages n) m (coherent w.group (w.pages n) w.down b.tied.running (b.good.stands n)) (sym ((b.tied.pages n).marked m) ∙ marked) world_level))
 
 -- ---- it is read
 kept_bytes : (b : Bool) (old page bytes : List ℕ) → bytes ≡ page → (b ≡ false → page ≡ old) → (if b then old else bytes) ≡ old
@@ -347,10 +385,6 @@ no_greater lrsn last i j rise le l = elim (cases_eq i j) [
   | inl e ↦ (let same : lrsn i ≡ lrsn j = ap lrsn e in omega (arith, same))
   | inr ne ↦ (let less = rise i j (omega (arith, le, ne)) l in omega (arith, less))
 ]
-
-pub coherent : (g : Group) (p : Page) (b : Bool) → b ≡ false → Stands b g p → Coherent g p
-coherent g p true e s = absurd (cc e)
-coherent g p false e s = s
 
 all_stable : (w : World) (g : Holdings) (content : ℕ → ℕ → List ℕ) (forced : ℕ → ℕ) (h : Held) (p : PageId) → Begins w g content forced h → h.marks.hand.page ≡ Some p → h.marks.hand.changed ≡ true → h.marks.hand.last ≤ h.marks.log.stable
     → AllStable w.group (w.pages (page_number p)) (w.pages (page_number p)).last

@@ -12,6 +12,7 @@ use Rattle.facility.specs.declared.command.Reply.{Reply}
 use Rattle.facility.specs.CacheCommands.{UnregistersFrame}
 use Rattle.facility.specs.States.{Held as Facility}
 use Rattle.member_resources.specs.Events.{Drive, World as Outside}
+use Rattle.restart_marks.specs.Moves.{is_recovered}
 use Rattle.restart_resources.specs.Events.{Ends}
 use Rattle.restart_resources.specs.Held.{Held}
 use Rattle.page_protocol.specs.Page.{put}
@@ -25,10 +26,10 @@ use Rattle.page_intents.specs.Logs.{all_forced}
 use Rattle.page_intents.specs.Owners.{owned_by}
 use Rattle.page_intents.specs.Stands.{AreBehind}
 use Rattle.page_members.specs.Members.{CommandsLeave, SameOthers, Shows}
-use Rattle.page_restarts.specs.Beside.{Beside, Leads, OthersRestart}
+use Rattle.page_restarts.specs.Beside.{Beside, Leads, OthersRestart, OwnRestarts}
 use Rattle.page_restarts.specs.Bringing.{ReadsOn, TestsOn}
 use Rattle.page_restarts.specs.Hands.{FillGoes, WriteGoes}
-use Rattle.page_restarts.specs.Locals.{CastsNone, MayPark, ReachesGo}
+use Rattle.page_restarts.specs.Locals.{MayPark, ReachesGo}
 use Rattle.page_restarts.specs.Locks.{AppendGoes, GiveUpGoes, LockGoes, StayGoes}
 use Rattle.page_restarts.specs.Stands.{Begins, Goes, IsRestarting, SameHand, behind, copy_of}
 use Rattle.page_restarts.specs.Undoes.{UndoGoes, undone_behind}
@@ -172,24 +173,41 @@ others_restart g left forced force m h same ne r =
       copies = λ n. same.copies k n ne ∙ r.copies n;
     }
 
+-- ---- and so is one whose own member casts a page out
+pub own_restarts : OwnRestarts
+own_restarts g left forced h same own r =
+    let m = h.marks.member in
+    let counter = same.counter in
+    let last = r.last in
+    record {
+      least = r.least;
+      among = subst (λ z. m ≤ z) (sym same.members) r.among;
+      restarts = own.standing ∙ r.restarts;
+      log = r.log;
+      last = omega (arith, counter, last);
+      pending = subst (λ z. AreBehind z (left.written m) h.marks.log.pending) (sym own.stable) (subst (λ z. AreBehind (g.stable m) z h.marks.log.pending) (sym own.written) r.pending);
+      full = r.full;
+      shows = r.shows;
+      copies = λ n. own.copies n ∙ r.copies n;
+    }
+
 -- ---- what is left, with what it takes to put the page aside that is in hand then
 abbrev pub Level : Holdings → ℕ → Held → Type 0
 Level g m k = k.marks.hand.changed ≡ true → is_some k.marks.hand.key ≡ true → g.stable m ≡ g.written m
 
+-- and all records that the member has drawn are on disk, as long as a retained page isn't recovered
+abbrev pub Stays : Holdings → Holdings → Held → Type 0
+Stays g left h = is_recovered h.marks ≡ false → g.stable h.marks.member ≡ g.written h.marks.member → left.stable h.marks.member ≡ left.written h.marks.member
+
 pub record Led (w : World) (v : Outside) (g : Holdings) (content : ℕ → ℕ → List ℕ) (forced : ℕ → ℕ) (h k : Held) (owned : ℕ → Option ℕ) : Type 0 where
   pub leads : Leads w v g content forced h k
   pub level : Level leads.left h.marks.member k
-  pub uncast : CastsNone g h.marks.member → CastsNone leads.left h.marks.member
   pub owner : leads.left.owner ≡ owned
-
--- the castout locks are as they were
-pub still_none : (w v : World) (g left : Holdings) (content versions : ℕ → ℕ → List ℕ) (m : ℕ) → Tied w g content → Tied v left versions → ((n : ℕ) → (v.pages n).castout ≡ (w.pages n).castout) → CastsNone g m → CastsNone left m
-still_none w v g left content versions m t u same none n e = none n ((t.pages n).castout ∙ sym (same n) ∙ sym ((u.pages n).castout) ∙ e)
 
 pub made : AlwaysGood → (w : World) (u v : Outside) (g left : Holdings) (content versions : ℕ → ℕ → List ℕ) (forced force : ℕ → ℕ) (h k : Held)
     → Beside w u g content forced h → Goes w versions force left h k → left.facility ≡ v.facility → Shows v.drive left.disk → IsSound left.facility.directory → k.marks.own.is_read ≡ true
-    → SameOthers g left forced force h.marks.member → ((n i : ℕ) → i ≤ (w.pages n).last → versions n i ≡ content n i) → Level left h.marks.member k → Led w v g content forced h k left.owner
-made law w u v g left content versions forced force h k b goes facility drive sound read others kept level = record {
+    → SameOthers g left forced force h.marks.member → ((n i : ℕ) → i ≤ (w.pages n).last → versions n i ≡ content n i) → left.casts ≡ g.casts → Stays g left h → Level left h.marks.member k → Led w v g content forced h k left.owner
+made law w u v g left content versions forced force h k b goes facility drive sound read others kept casts stays level = record {
   leads = record {
     moves = goes.moves;
     world = goes.moved.world;
@@ -206,9 +224,10 @@ made law w u v g left content versions forced force h k b goes facility drive so
     same = goes.same;
     others = others;
     kept = kept;
+    casts = casts;
+    level = stays;
   };
   level = level;
-  uncast = still_none w goes.moved.world g left content versions h.marks.member b.begins.tied goes.moved.tied goes.casts;
   owner = refl;
 }
 
@@ -217,13 +236,13 @@ pub stay_leads : Facts → (w : World) (u v : Outside) (g : Holdings) (content :
     → Beside w u g content forced h → KeepsPages g.facility v.facility → Shows v.drive g.disk → SameHand h k → k.marks.own.is_read ≡ true → Level g h.marks.member k → Led w v g content forced h k g.owner
 stay_leads facts w u v g content forced h k b keeps drive s read level =
     made facts.good w u v g (with_facility g v.facility) content content forced forced h k b (facts.stay w g content forced h k v.facility b.begins keeps s)
-    refl drive (subst IsSound (sym keeps.directory) b.begins.sound) read (others_facility g v.facility forced h.marks.member (standings_of g.facility v.facility keeps)) (λ n i l. refl) level
+    refl drive (subst IsSound (sym keeps.directory) b.begins.sound) read (others_facility g v.facility forced h.marks.member (standings_of g.facility v.facility keeps)) (λ n i l. refl) refl (λ no e. e) level
 
 -- ---- one that changes it
 pub behind_leads : Facts → (w : World) (u v : Outside) (g : Holdings) (content : ℕ → ℕ → List ℕ) (forced : ℕ → ℕ) (h k : Held)
     → Beside w u g content forced h → Goes w content forced (behind g v.facility h.marks.member k) h k → KeepsStandings g.facility v.facility → IsSound v.facility.directory → Shows v.drive g.disk → k.marks.own.is_read ≡ true → Level g h.marks.member k → Led w v g content forced h k g.owner
 behind_leads facts w u v g content forced h k b goes keeps sound drive read level =
-    made facts.good w u v g (behind g v.facility h.marks.member k) content content forced forced h k b goes refl drive sound read (others_behind g v.facility forced h.marks.member k keeps) (λ n i l. refl) level
+    made facts.good w u v g (behind g v.facility h.marks.member k) content content forced forced h k b goes refl drive sound read (others_behind g v.facility forced h.marks.member k keeps) (λ n i l. refl) refl (λ no e. e) level
 
 -- ---- the registration of index 0 is dropped, while no page is in hand
 away : (g : Holdings) (forced : ℕ → ℕ) (h : Held) → IsRestarting g forced h → h.marks.hand.page ≡ None → (j : ℕ) → g.copies h.marks.member j ≡ no_copy
@@ -301,7 +320,7 @@ pub unregister_leads : Facts → (w : World) (u v : Outside) (g : Holdings) (con
 unregister_leads facts w u v g content forced h k answer b none r drive is level = subst (λ (z : Held). Led w v g content forced h z g.owner) (sym is) (
     made facts.good w u v g (with_facility g v.facility) content content forced forced h h b (unregister_goes facts.places facts.unregisters w g content forced h answer v.facility b.begins none r)
     refl drive (subst (λ (z : Facility). IsSound z.directory) (sym r.1) (facts.sound.unregister g.facility.directory h.marks.member 0 b.begins.sound)) b.read
-    (others_facility g v.facility forced h.marks.member (directory_standings g.facility v.facility (after_unregister g.facility.directory h.marks.member 0) r.1)) (λ n i l. refl) level)
+    (others_facility g v.facility forced h.marks.member (directory_standings g.facility v.facility (after_unregister g.facility.directory h.marks.member 0) r.1)) (λ n i l. refl) refl (λ no e. e) level)
 
 -- ---- page locks
 pub lock_leads : Facts → (w : World) (u v : Outside) (g : Holdings) (content : ℕ → ℕ → List ℕ) (forced : ℕ → ℕ) (h k : Held) (p : PageId)
@@ -309,13 +328,13 @@ pub lock_leads : Facts → (w : World) (u v : Outside) (g : Holdings) (content :
 lock_leads facts w u v g content forced h k p b free keeps drive s read level =
     made facts.good w u v g (owned_by g v.facility (page_number p) (Some h.marks.member)) content content forced forced h k b (facts.lock w g content forced h k p v.facility b.begins free keeps s)
     refl drive (subst IsSound (sym keeps.directory) b.begins.sound) read
-    (others_owned g v.facility forced h.marks.member (page_number p) (Some h.marks.member) (standings_of g.facility v.facility keeps) (λ j ne e. none-some j (sym free ∙ e)) (λ j ne e. ne (sym (same_Some h.marks.member j e)))) (λ n i l. refl) level
+    (others_owned g v.facility forced h.marks.member (page_number p) (Some h.marks.member) (standings_of g.facility v.facility keeps) (λ j ne e. none-some j (sym free ∙ e)) (λ j ne e. ne (sym (same_Some h.marks.member j e)))) (λ n i l. refl) refl (λ no e. e) level
 
 pub give_up_leads : Facts → (w : World) (u v : Outside) (g : Holdings) (content : ℕ → ℕ → List ℕ) (forced : ℕ → ℕ) (h k : Held) (p : PageId)
     → Beside w u g content forced h → Goes w content forced (owned_by g v.facility (page_number p) None) h k → g.owner (page_number p) ≡ Some h.marks.member → KeepsPages g.facility v.facility → Shows v.drive g.disk → k.marks.own.is_read ≡ true → Level g h.marks.member k → Led w v g content forced h k (put g.owner (page_number p) None)
 give_up_leads facts w u v g content forced h k p b goes own keeps drive read level =
     made facts.good w u v g (owned_by g v.facility (page_number p) None) content content forced forced h k b goes refl drive (subst IsSound (sym keeps.directory) b.begins.sound) read
-    (others_owned g v.facility forced h.marks.member (page_number p) None (standings_of g.facility v.facility keeps) (λ j ne e. ne (sym (same_Some h.marks.member j (sym own ∙ e)))) (λ j ne e. none-some j e)) (λ n i l. refl) level
+    (others_owned g v.facility forced h.marks.member (page_number p) None (standings_of g.facility v.facility keeps) (λ j ne e. ne (sym (same_Some h.marks.member j (sym own ∙ e)))) (λ j ne e. none-some j e)) (λ n i l. refl) refl (λ no e. e) level
 
 -- ---- and then the policy's local moves
 others_on : (g mid left : Holdings) (forced between force : ℕ → ℕ) (m p : ℕ) → p ≡ m → SameOthers g mid forced between m → SameOthers mid left between force p → SameOthers g left forced force m
@@ -368,6 +387,8 @@ ended facts w v g content forced h mid k a park ends read =
         same = goes.same ∙ a.same;
         others = others_on g a.left left forced a.force a.force h.marks.member m a.same a.others (others_behind a.left f a.force m k (standings_same f));
         kept = a.kept;
+        casts = a.casts;
+        level = a.level;
       };
       owner = refl;
     }

@@ -1,6 +1,6 @@
 -- Local moves of a restart, one behind the other.
-use Rattle.std.proofs.Common.{◌≡◌, ◌≢◌, ℕ, ◌+◌, ◌<◌, ◌≤◌, refl, sym, ap, subst, ◌∙◌, arith, Bool, true, false, inl, inr, List, [], ◌∷◌, ◌++◌, Option, Some, None}
-use Rattle.std.specs.Prelude.{◌==◌, ◌&&◌, ◌||◌, not, if◌then◌else◌, is_none, is_some, slice_get, unwrap_or}
+use Rattle.std.proofs.Common.{◌≡◌, ℕ, ◌+◌, refl, sym, ap, subst, ◌∙◌, arith, Bool, true, false, inl, inr, List, [], ◌∷◌, ◌++◌, Option, Some, None}
+use Rattle.std.specs.Prelude.{◌==◌, ◌&&◌, ◌||◌, not, if◌then◌else◌, is_none, is_some, slice_get}
 use Rattle.std.specs.List.{count_by, flat_map}
 use Rattle.std.proofs.lemmas.Bool.{and_parts, cases_eq, cond-false, cond-true, eq-eqb, ne_eqb}
 use Rattle.std.proofs.lemmas.Grind.{flat_map-append}
@@ -11,151 +11,21 @@ use Rattle.ds_model.specs.declared.log.LogRecord.{LogRecord}
 use Rattle.ds_model.specs.RecordBytes.{record_bytes}
 use Rattle.log_record.specs.Changes.{is_drawn}
 use Rattle.member_log.specs.Buffers.{after_put}
-use Rattle.cache_structure.specs.Directory.{Directory, bit, castout_of, is_registered}
-use Rattle.list_structure.specs.Standings.{status_of}
 use Rattle.restart_records.specs.declared.queue.TurnKey.{TurnKey}
 use Rattle.restart_records.specs.Trans.{after_end, page_undone}
 use Rattle.restart_marks.specs.Moves.{Local, TakeUpRetained, TakeUpUndone, PutDown, Close, Reaches, all_moved, claims_hand, closing_record, is_recovered, may_close, may_put_down, moved, retained_from, undone_from}
 use Rattle.restart_marks.specs.State.{RestartState, no_hand, with_hand}
 use Rattle.restart_resources.specs.Held.{Held, with_marks}
-use Rattle.page_protocol.specs.Page.{Page, Restarting, Failed, drop_frame, fail, put, unfilled}
-use Rattle.page_protocol.specs.Moves.{World, Fail, Restart, IsCut, failed, restarting}
+use Rattle.page_protocol.specs.Moves.{World}
 use Rattle.page_protocol.specs.Always.{AlwaysGood}
-use Rattle.page_world.specs.Holdings.{no_copy, Holdings, as_status, held_of}
-use Rattle.page_world.specs.Numbers.{page_at, set_of}
-use Rattle.page_world.specs.Tied.{AreApart, PageTied, Tied, bit_in}
+use Rattle.page_world.specs.Holdings.{Holdings}
+use Rattle.page_world.specs.Numbers.{set_of}
+use Rattle.page_world.specs.Tied.{Tied}
 use Rattle.page_intents.specs.Stands.{AreBehind}
 use Rattle.page_restarts.specs.Hands.{PutsDown, TakesUp}
-use Rattle.page_restarts.specs.Locals.{CastsNone, MayPark, PutsAside, ReachesGo}
+use Rattle.page_restarts.specs.Locals.{MayPark, PutsAside, ReachesGo}
 use Rattle.page_restarts.specs.Stands.{Begins, Goes, IsRestarting, behind, copy_of}
-use Rattle.page_restarts.proofs.Chains.{numbered_along}
-use Rattle.page_restarts.proofs.Hands.{coherent}
 use Rattle.page_restarts.proofs.Standing.{goes_on}
-
--- ---- a changed page is put aside: the member fails, with nothing to lose, and restarts
-castout_left : (m : ℕ) (o : Option ℕ) → o ≢ Some m → (if (unwrap_or o (m + 1)) == m then None else o) ≡ o
-castout_left m None ne = cond-false ((m + 1) == m) None None (ne_eqb (m + 1) m (λ e. omega (arith, e)))
-castout_left m (Some k) ne = cond-false (k == m) None (Some k) (ne_eqb k m (λ e. ne (ap Some e)))
-
-page_left : (p : Page) (m : ℕ) → p.castout ≢ Some m → fail p m p.last ≡ drop_frame p m
-page_left p m ne =
-    let e = castout_left m p.castout ne in
-    λ i. record (drop_frame p m) { castout = e i }
-
-abbrev without_copies : Holdings → ℕ → Holdings
-without_copies g m = record g { copies = λ k j. if k == m then no_copy else g.copies k j }
-
-page_dropped : (g : Holdings) (m n : ℕ) (p : Page) (content : ℕ → List ℕ) → PageTied (held_of g n) p content → PageTied (held_of (without_copies g m) n) (drop_frame p m) content
-page_dropped g m n p content t = record {
-  bytes = t.bytes;
-  changed = t.changed;
-  there = t.there;
-  castout = t.castout;
-  written = t.written;
-  disk = t.disk;
-  bit = λ k. elim (k == m) as (λ z. bit_in (if z then no_copy else g.copies k n) (is_registered d id k (if z then no_copy else g.copies k n).index) ≡ (if z then false else p.bit k)) [ true ↦ refl | false ↦ t.bit k ];
-  own = λ k. elim (k == m) as (λ z. (if z then no_copy else g.copies k n).placed ≡ true → (if z then no_copy else g.copies k n).noted ≡ true → bit d k (if z then no_copy else g.copies k n).index ≡ true → is_registered d id k (if z then no_copy else g.copies k n).index ≡ true) [
-    | true ↦ never
-    | false ↦ t.own k
-  ];
-  filled = λ k. elim (k == m) as (λ z. (if z then no_copy else g.copies k n).filled ≡ (if z then unfilled 0 false else p.frame k).filled) [ true ↦ refl | false ↦ t.filled k ];
-  marked = λ k. elim (k == m) as (λ z. (if z then no_copy else g.copies k n).marked ≡ (if z then unfilled 0 false else p.frame k).marked) [ true ↦ refl | false ↦ t.marked k ];
-  same = λ k. elim (k == m) as (λ z. (if z then unfilled 0 false else p.frame k).filled ≡ true → (if z then no_copy else g.copies k n).bytes ≡ content (if z then unfilled 0 false else p.frame k).version) [ true ↦ unfilled_bytes | false ↦ t.same k ];
-  indirect = λ k. elim (k == m) as (λ z. (if z then unfilled 0 false else p.frame k).direct ≡ false) [ true ↦ refl | false ↦ t.indirect k ];
-  buffer = t.buffer;
-  sent = t.sent;
-  owner = t.owner;
-  part = t.part;
-}
-  where
-    d : Directory
-    d = g.facility.directory
-
-    id : PageId
-    id = page_at n
-
-    never : {A : Type 0} → no_copy.placed ≡ true → A
-    never e = absurd (cc e)
-
-    unfilled_bytes : (unfilled 0 false).filled ≡ true → no_copy.bytes ≡ content 0
-    unfilled_bytes e = absurd (cc e)
-
-apart_left : (g : Holdings) (m : ℕ) → AreApart g → AreApart (without_copies g m)
-apart_left g m a k i j = by (k == m)
-  where
-    by : (b : Bool) → (if b then no_copy else g.copies k i).placed ≡ true → (if b then no_copy else g.copies k j).placed ≡ true → (if b then no_copy else g.copies k i).index ≡ (if b then no_copy else g.copies k j).index → i ≡ j
-    by true x y e = absurd (cc x)
-    by false x y e = a k i j x y e
-
-pub puts_aside : PutsAside
-puts_aside w g content forced h b none all = record {
-  moves = Fail m cut ∷ Restart m ∷ [];
-  moved = record { world = last; run = (first, (b.tied.running, cuts, refl), (last, (refl, cond-true (m == m) Failed (w.group.status m) (eq-eqb m m refl), refl), refl)); tied = tied };
-  numbered = numbered_along w last content forced (λ n. refl) refl refl b.numbered;
-  casts = λ n. castout_left m (w.pages n).castout (free n);
-  same = refl;
-  stands = record {
-    least = b.restarts.least;
-    among = b.restarts.among;
-    restarts = b.restarts.restarts;
-    log = b.restarts.log;
-    last = b.restarts.last;
-    pending = b.restarts.pending;
-    full = λ e. absurd (cc e);
-    shows = λ e. absurd (cc e);
-    copies = λ j. cond-true (m == m) no_copy (g.copies m j) (eq-eqb m m refl);
-  };
-}
-  where
-    m : ℕ
-    m = h.marks.member
-
-    cut : ℕ → ℕ
-    cut n = (w.pages n).last
-
-    first : World
-    first = record { down = false; group = failed w.group m; pages = λ n. fail (w.pages n) m (cut n) }
-
-    last : World
-    last = record { down = false; group = restarting (failed w.group m) m; pages = λ n. fail (w.pages n) m (cut n) }
-
-    -- all that it has written is stable
-    level : w.group.written m ≡ w.group.stable m
-    level = b.tied.written m ∙ sym all ∙ sym (b.tied.stable m)
-
-    cuts : (n : ℕ) → IsCut w.group m (w.pages n) (cut n)
-    cuts n = record {
-      short = omega arith;
-      kept = λ i l own. subst (λ z. (w.pages n).place i < z) (ap w.group.written own ∙ level) ((coherent w.group (w.pages n) w.down b.tied.running (b.good.stands n)).written i l);
-      gone = λ i le l. absurd (omega (arith, le, l));
-    }
-
-    free : (n : ℕ) → (w.pages n).castout ≢ Some m
-    free n e = none n ((b.tied.pages n).castout ∙ e)
-
-    status : (k : ℕ) → 1 ≤ k → k ≤ g.facility.lists.members → put (put w.group.status m Failed) m Restarting k ≡ as_status (status_of g.facility.lists.statuses k)
-    status k least most = elim (cases_eq k m) [
-      | inl e ↦ cond-true (k == m) Restarting (put w.group.status m Failed k) (eq-eqb k m e) ∙ sym (ap as_status (ap (status_of g.facility.lists.statuses) e ∙ b.restarts.restarts))
-      | inr ne ↦ cond-false (k == m) Restarting (put w.group.status m Failed k) (ne_eqb k m ne) ∙ cond-false (k == m) Failed (w.group.status k) (ne_eqb k m ne) ∙ b.tied.status k least most
-    ]
-
-    written : (k : ℕ) → put w.group.written m (w.group.stable m) k ≡ g.written k
-    written k = elim (cases_eq k m) [
-      | inl e ↦ cond-true (k == m) (w.group.stable m) (w.group.written k) (eq-eqb k m e) ∙ b.tied.stable m ∙ all ∙ sym (ap g.written e)
-      | inr ne ↦ cond-false (k == m) (w.group.stable m) (w.group.written k) (ne_eqb k m ne) ∙ b.tied.written k
-    ]
-
-    tied : Tied last (without_copies g m) content
-    tied = record {
-      running = refl;
-      lost = b.tied.lost;
-      counter = b.tied.counter;
-      status = status;
-      stable = b.tied.stable;
-      written = written;
-      apart = apart_left g m b.tied.apart;
-      pages = λ n. subst (λ (p : Page). PageTied (held_of (without_copies g m) n) p (content n)) (sym (page_left (w.pages n) m (free n))) (page_dropped g m n (w.pages n) (content n) (b.tied.pages n));
-    }
 
 -- ---- the copies are as they were
 behind_same : (g : Holdings) (forced : ℕ → ℕ) (h t : Held) → IsRestarting g forced h → ((j : ℕ) → copy_of t j ≡ copy_of h j) → behind g g.facility h.marks.member t ≡ g
@@ -189,7 +59,7 @@ is_kept : (changed key : Bool) → changed ≡ true → (not changed || key) ≡
 is_kept true key e f = f
 is_kept false key e f = absurd (cc e)
 
-module _ (takes : TakesUp) (puts : PutsDown) (w : World) (g : Holdings) (content : ℕ → ℕ → List ℕ) (forced : ℕ → ℕ) (h : Held) (b : Begins w g content forced h) (park : MayPark g h) where
+module _ (takes : TakesUp) (puts : PutsDown) (asides : PutsAside) (w : World) (g : Holdings) (content : ℕ → ℕ → List ℕ) (forced : ℕ → ℕ) (h : Held) (b : Begins w g content forced h) (park : MayPark g h) where
   abbrev s : RestartState
   s = h.marks
 
@@ -224,8 +94,8 @@ module _ (takes : TakesUp) (puts : PutsDown) (w : World) (g : Holdings) (content
   put_aside : (x : Bool) → s.hand.changed ≡ x → may_put_down s.hand s.claim ≡ true → Left (with_hand s no_hand)
   put_aside false e may = (puts w g content forced h b e).goes
   put_aside true e may =
-      let parks = park e (is_kept s.hand.changed (is_some s.hand.key) e (and_parts (not (claims_hand s.claim s.hand.page)) (not s.hand.changed || is_some s.hand.key) may).1) in
-      puts_aside w g content forced h b parks.1 parks.0
+      let level = park e (is_kept s.hand.changed (is_some s.hand.key) e (and_parts (not (claims_hand s.claim s.hand.page)) (not s.hand.changed || is_some s.hand.key) may).1) in
+      (asides w g content forced h b e level).goes
 
   closes : (id : ℕ) → Left (record s { log = after_put s.log (closing_record s id); trans = after_end s.trans id })
   closes id = record {
@@ -261,7 +131,7 @@ module _ (takes : TakesUp) (puts : PutsDown) (w : World) (g : Holdings) (content
 
 -- a page in hand that may be put aside still may be
 abbrev Parks : Holdings → ℕ → RestartState → Type 0
-Parks g m t = t.hand.changed ≡ true → is_some t.hand.key ≡ true → (g.stable m ≡ g.written m) × CastsNone g m
+Parks g m t = t.hand.changed ≡ true → is_some t.hand.key ≡ true → g.stable m ≡ g.written m
 
 park_if : (g : Holdings) (m : ℕ) (x : Bool) (s t : RestartState) → Parks g m s → Parks g m t → Parks g m (if x then t else s)
 park_if g m true s t a b = b
@@ -282,20 +152,20 @@ park_one g m PutDown s a = park_if g m (may_put_down s.hand s.claim) s (with_han
 park_one g m (Close id) s a = park_if g m (may_close s id) s (record s { log = after_put s.log (closing_record s id); trans = after_end s.trans id }) a a
 
 -- ---- several
-all_go : AlwaysGood → TakesUp → PutsDown → (xs : List Local) (w : World) (g : Holdings) (content : ℕ → ℕ → List ℕ) (forced : ℕ → ℕ) (h : Held) → Begins w g content forced h → MayPark g h
+all_go : AlwaysGood → TakesUp → PutsDown → PutsAside → (xs : List Local) (w : World) (g : Holdings) (content : ℕ → ℕ → List ℕ) (forced : ℕ → ℕ) (h : Held) → Begins w g content forced h → MayPark g h
     → Goes w content forced (behind g g.facility h.marks.member (with_marks h (all_moved xs h.marks))) h (with_marks h (all_moved xs h.marks))
-all_go good takes puts [] w g content forced h b park = idle takes puts w g content forced h b park
-all_go good takes puts (x ∷ xs) w g content forced h b park =
+all_go good takes puts asides [] w g content forced h b park = idle takes puts asides w g content forced h b park
+all_go good takes puts asides (x ∷ xs) w g content forced h b park =
     let t = with_marks h (moved x h.marks) in
-    let a = one takes puts w g content forced h b park x in
+    let a = one takes puts asides w g content forced h b park x in
     let left = behind g g.facility h.marks.member t in
     goes_on w g content forced g.facility h t (with_marks h (all_moved xs (moved x h.marks))) a
-    (all_go good takes puts xs a.moved.world left content forced t
+    (all_go good takes puts asides xs a.moved.world left content forced t
     (record { good = good set_of a.moves w a.moved.world b.good a.moved.run; tied = a.moved.tied; numbered = a.numbered; sound = b.sound; restarts = a.stands })
     (subst (λ z. Parks g z (moved x h.marks)) (sym a.same) (park_one g h.marks.member x h.marks park)))
 
-pub reaches_go : AlwaysGood → TakesUp → PutsDown → ReachesGo
+pub reaches_go : AlwaysGood → TakesUp → PutsDown → PutsAside → ReachesGo
 unfolding Reaches
-reaches_go good takes puts w g content forced h k b park ends =
+reaches_go good takes puts asides w g content forced h k b park ends =
     let is : k ≡ with_marks h (all_moved ends.0.0 h.marks) = ends.1 ∙ ap (with_marks h) ends.0.1 in
-    subst (λ (z : Held). Goes w content forced (behind g g.facility h.marks.member z) h z) (sym is) (all_go good takes puts ends.0.0 w g content forced h b park)
+    subst (λ (z : Held). Goes w content forced (behind g g.facility h.marks.member z) h z) (sym is) (all_go good takes puts asides ends.0.0 w g content forced h b park)

@@ -1,6 +1,6 @@
 -- What a lawful intent of a restart sends, and what its tests show.
 use Rattle.std.proofs.Common.{◌≡◌, ◌≤◌, refl, sym, ◌∙◌, ap, subst, Bool, true, false, Option, Some, None, Result, Ok, Err}
-use Rattle.std.specs.Prelude.{◌&&◌, ◌==◌, not, is_none, is_some, nat_le}
+use Rattle.std.specs.Prelude.{◌&&◌, ◌==◌, not, is_none, is_some, length, nat_le}
 use Rattle.std.proofs.lemmas.Bool.{and_from, and_parts, eq-eqb, eqb-true, leb-true}
 use Rattle.ds_base.specs.declared.names.PageId.{PageId}
 use Rattle.ds_model.specs.declared.lock.Name.TheVariants as name
@@ -14,7 +14,7 @@ use Rattle.restart_marks.specs.declared.intent.RestartTest.{RestartTest}
 use Rattle.restart_marks.specs.declared.intent.RestartTest.TheVariants as test
 use Rattle.restart_marks.specs.HandNeeds.{owner_test, purges_page, reads, reads_page, writes}
 use Rattle.restart_marks.specs.LockNeeds.{asked_in, commands, free_test, is_row_retained, locks_in, log_test, releases, undo_command, undo_with, unchanged_test, undone_hand_test}
-use Rattle.restart_marks.specs.Moves.{is_claimed, is_claimed_as, is_same}
+use Rattle.restart_marks.specs.Moves.{is_claimed, is_claimed_as, is_recovered, is_same}
 use Rattle.restart_marks.specs.OwnNeeds.{listed_test, recovered_test}
 use Rattle.restart_marks.specs.State.{RestartState}
 use Rattle.restart_marks.specs.Tested.{Tested, after, passed, sends, when}
@@ -216,6 +216,7 @@ pub record UndoesHand (s : RestartState) (x : RestartSent) : Type 0 where
   pub placed : s.hand.page ≡ Some page
   pub filled : s.hand.filled ≡ true
   pub claimed : s.claim ≡ Some page
+  pub recovered : is_recovered s ≡ true
   pub is : x ≡ sent.Command undo_command
 
 same_page : (p q : PageId) → is_same p q ≡ true → p ≡ q
@@ -257,4 +258,13 @@ undoes_hand s x (Some it) e =
     let tests : Tested = after (recovered_test s) (after hand rest) in
     let first : holds tests ≡ true = after_first tests (Ok (sent.Command undo_command)) x e in
     let it = hand_tested s (page_of c) s.hand.page (passes hand rest (after_tests (recovered_test s) (after hand rest) first)) in
-    record { page = it.own; placed = it.is; filled = it.filled; claimed = it.claimed; is = sent_as tests (sent.Command undo_command) x e }
+    let pages : Tested = when (length s.pages == 0) test.PagesLeft passed in
+    let known : holds (recovered_test s) ≡ true = passes (recovered_test s) (after hand rest) first in
+    record {
+      page = it.own;
+      placed = it.is;
+      filled = it.filled;
+      claimed = it.claimed;
+      recovered = and_from s.is_listed (length s.pages == 0) (when_first s.is_listed test.NotListed pages known) (when_first (length s.pages == 0) test.PagesLeft passed (when_rest s.is_listed test.NotListed pages known));
+      is = sent_as tests (sent.Command undo_command) x e;
+    }

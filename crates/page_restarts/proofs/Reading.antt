@@ -271,6 +271,8 @@ module _ (facts : Facts) (w : World) (u v : Outside) (g : Holdings) (content : �
     same = goes.same;
     others = others_facility g v.facility forced h.marks.member standings;
     owner = refl;
+    casts = refl;
+    level = b.level;
   }
 
   stays : GoesOn h k → KeepsPages g.facility v.facility → Shows v.drive g.disk → ReadingLeads w v g content forced h k
@@ -368,6 +370,8 @@ module _ (facts : Facts) (w : World) (u v : Outside) (g : Holdings) (content : �
           takes = λ j n ne e. o.takes j n (off j ne) e;
         };
         owner = refl;
+        casts = refl;
+        level = b.level;
       }
     where
       off : (j : ℕ) → j ≢ m → j ≢ mid.marks.member

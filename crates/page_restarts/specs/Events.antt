@@ -14,6 +14,7 @@ use Rattle.restart_marks.specs.declared.intent.RestartIntent.{RestartIntent}
 use Rattle.restart_marks.specs.declared.intent.RestartIntent.TheVariants as intent
 use Rattle.restart_marks.specs.declared.intent.RestartSent.{RestartSent}
 use Rattle.restart_marks.specs.declared.intent.RestartSent.TheVariants as sent
+use Rattle.restart_marks.specs.Moves.{is_recovered}
 use Rattle.restart_resources.specs.Events.{Happens, RunsCommand}
 use Rattle.restart_resources.specs.Held.{Held}
 use Rattle.restart_resources.specs.Settled.{read_in, settle_undo_after, tested_in}
@@ -23,7 +24,6 @@ use Rattle.page_world.specs.Numbers.{page_number}
 use Rattle.page_members.specs.Members.{GroupGoes, Shows}
 use Rattle.page_restarts.specs.Beside.{Beside, Leads, as_restarting}
 use Rattle.page_restarts.specs.Bringing.{Forwards}
-use Rattle.page_restarts.specs.Locals.{CastsNone}
 use Rattle.page_restarts.specs.Undoes.{IsUndone}
 
 -- ---- what an event takes from elsewhere
@@ -62,16 +62,15 @@ IsGiven w g content h e (intent.Undo id) answer = (number : ℕ) (p : PageId) �
 IsGiven w g content h e intent.ReleasePage answer = (p : PageId) → h.marks.claim ≡ Some p → MayGiveUp w g h.marks.member p
 IsGiven w g content h e _ answer = Unit {0}
 
--- a page in hand that was changed, and whose record is still retained, may be put aside: no change was taken back, and none is in this event; and
--- the member casts no page out
-pub record IsQuiet (g : Holdings) (h after : Held) (a : Answered) : Type 0 where
+-- a page in hand that was changed, and whose record is still retained, may be put aside: not all retained pages are recovered then, and all records
+-- that the member has drawn are on disk
+pub record IsQuiet (g : Holdings) (h after : Held) : Type 0 where
+  pub unrecovered : after.marks.hand.changed ≡ true → is_some after.marks.hand.key ≡ true → is_recovered h.marks ≡ false
   pub level : after.marks.hand.changed ≡ true → is_some after.marks.hand.key ≡ true → g.stable h.marks.member ≡ g.written h.marks.member
-  pub uncast : after.marks.hand.changed ≡ true → is_some after.marks.hand.key ≡ true → CastsNone g h.marks.member
-  pub undrawn : (number : ℕ) → after.marks.hand.changed ≡ true → is_some after.marks.hand.key ≡ true → a ≢ answered.Reply (reply.Drawn number)
 
 pub record Supplied (w : World) (u v : Outside) (g : Holdings) (content : ℕ → ℕ → List ℕ) (h k : Held) (s : RestartSent) (a : Answered) (happens : Happens (as_restarting u) h s a (as_restarting v) k) : Type 0 where
   pub given : (c : Command) → s ≡ sent.Command c → (r : RunsCommand u.facility h happens.intent c a happens.said v.facility happens.after) → IsGiven w g content h r.after happens.intent r.answer
-  pub quiet : IsQuiet g h happens.after a
+  pub quiet : IsQuiet g h happens.after
   -- the disk does what it is asked
   pub works : a ≢ answered.Failed
 

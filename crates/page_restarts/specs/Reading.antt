@@ -82,6 +82,8 @@ pub record ReadingLeads (w : World) (v : Outside) (g : Holdings) (content : ℕ 
   pub same : k.marks.member ≡ h.marks.member
   pub others : SameOthers g left forced force h.marks.member
   pub owner : left.owner ≡ g.owner
+  pub casts : left.casts ≡ g.casts
+  pub level : left.written h.marks.member ≡ left.stable h.marks.member
 
 abbrev pub ReadingGoes : Type 0
 ReadingGoes = (w : World) (u v : Outside) (g : Holdings) (content : ℕ → ℕ → List ℕ) (forced : ℕ → ℕ) (h k : Held) (s : RestartSent) (a : Answered)

@@ -4,7 +4,7 @@
 //! The crate has definitions and proofs alone. Its functions do nothing: their contracts are the theorems.
 #![tactic(auto)]
 
-ghost use Rattle.page_restarts.specs.Beside.{OthersRestart};
+ghost use Rattle.page_restarts.specs.Beside.{OthersRestart, OwnRestarts};
 ghost use Rattle.page_restarts.specs.Bringing.{BringGoes, ReadsOn, TestsOn};
 ghost use Rattle.page_restarts.specs.Events.{EndGoes, EventsGo};
 ghost use Rattle.page_restarts.specs.Hands.{FillGoes, ForwardGoes, PutsDown, ReadGoes, TakesUp, TestGoes, WriteGoes};
@@ -124,6 +124,11 @@ pub fn ends_go()
 /// Where an event of one member leaves what the group holds of all others, the restart of each of them that is in hand still is.
 pub fn others_still_restart()
     ensures { OthersRestart }
+{}
+
+/// So is its own, where the event leaves what the group holds of that member, but for what it casts out.
+pub fn own_still_restarts()
+    ensures { OwnRestarts }
 {}
 
 /// While a restart reads its log, from its begin on, its events leave the pages and their locks, but that they may drop a registration. Where the

@@ -7,11 +7,11 @@ use Rattle.cache_structure.specs.Frames.{is_page, with_frame}
 use Rattle.facility.specs.declared.command.Reply.TheVariants as reply
 use Rattle.facility.specs.States.{Held}
 use Rattle.page_protocol.specs.Page.{Page, Group, Frame, put, unfilled, read_disk, drop_frame, redo}
-use Rattle.page_protocol.specs.Moves.{World, At, ReadDisk, DropFrame, Redo, MayFill}
+use Rattle.page_protocol.specs.Moves.{World, At, ReadDisk, DropFrame, PutAside, Redo, MayFill}
 use Rattle.page_world.specs.Numbers.{page_at}
 use Rattle.page_world.specs.Holdings.{Copy, no_copy, Holdings, PageHeld, held_of, put2, with_copy, as_status}
 use Rattle.page_world.specs.Tied.{PageTied, bit_in, AreApart, Tied, Moved}
-use Rattle.page_world.specs.Frames.{placed_copy, PlacesStays, filled_copy, FillsMoves, redone_copy, RedoesMoves, LeavesMoves, UnregistersMoves, TestsTell}
+use Rattle.page_world.specs.Frames.{placed_copy, PlacesStays, filled_copy, FillsMoves, redone_copy, RedoesMoves, LeavesMoves, AsideMoves, UnregistersMoves, TestsTell}
 use Rattle.page_world.proofs.Slices.{Alike, alike_tied, alike_on, one_moved, none_moved, put2_here, put2_other, put2_by}
 use Rattle.page_world.proofs.Copies.{by_member, put_here, put_there, FrameTied, apart_put, apart_gone, frame_apart, frame_other}
 use Rattle.page_world.proofs.Reading.{not_failed}
@@ -160,6 +160,13 @@ leaves w g content m n t clean =
     one_moved w g after content n (DropFrame m) (drop_frame (w.pages n) m) t
     (record { lost = refl; counter = refl; members = refl; statuses = refl; stable = λ m. refl; written = λ m. refl; apart = apart_gone g m n no_copy t.apart refl })
     (sym ((t.pages n).marked m) ∙ clean, refl) (left_here w g content m n t) (λ j ne. copy_beside g m n j no_copy ne)
+
+pub puts_aside : AsideMoves
+puts_aside w g content m n t least among rests marked stable =
+    let after = with_copy g m n no_copy in
+    one_moved w g after content n (PutAside m) (drop_frame (w.pages n) m) t
+    (record { lost = refl; counter = refl; members = refl; statuses = refl; stable = λ m. refl; written = λ m. refl; apart = apart_gone g m n no_copy t.apart refl })
+    (t.status m least among ∙ ap as_status rests, sym ((t.pages n).marked m) ∙ marked, stable, refl) (left_here w g content m n t) (λ j ne. copy_beside g m n j no_copy ne)
 
 -- the registration of a frame that no page has is dropped
 frame_dropped : (g : Holdings) (m index j : ℕ) → ((k : ℕ) → (g.copies k j).placed ≡ true → k ≡ m → (g.copies k j).index ≡ index → ⊥)

@@ -7,7 +7,8 @@ use Rattle.facility.specs.declared.command.Reply.{Reply}
 use Rattle.facility.specs.declared.command.Reply.TheVariants as reply
 use Rattle.facility.specs.States.{Held}
 use Rattle.facility.specs.CacheCommands.{UnregistersFrame, TestsFrame}
-use Rattle.page_protocol.specs.Moves.{World, At, DropFrame, ReadDisk, Redo}
+use Rattle.page_protocol.specs.Page.{AllStable}
+use Rattle.page_protocol.specs.Moves.{World, At, DropFrame, PutAside, ReadDisk, Redo}
 use Rattle.page_world.specs.Holdings.{Copy, no_copy, Holdings, with_copy, with_facility}
 use Rattle.page_world.specs.Tied.{Tied, Moved}
 use Rattle.page_world.specs.Cache.{IsLive, HasFrame}
@@ -46,7 +47,13 @@ LeavesMoves = (w : World) (g : Holdings) (content : ℕ → ℕ → List ℕ) (m
     → Tied w g content → (g.copies m n).marked ≡ false
     → Moved w (At n (DropFrame m) ∷ []) (with_copy g m n no_copy) content
 
--- and the registration is dropped with it
+-- so does one that it has changed leave the frame of a member that restarts, where all its changes stand on disk in their logs
+abbrev pub AsideMoves : Type 0
+AsideMoves = (w : World) (g : Holdings) (content : ℕ → ℕ → List ℕ) (m n : ℕ)
+    → Tied w g content → 1 ≤ m → m ≤ g.facility.lists.members → status_of g.facility.lists.statuses m ≡ standing.Restarting → (g.copies m n).marked ≡ true → AllStable w.group (w.pages n) (w.pages n).last
+    → Moved w (At n (PutAside m) ∷ []) (with_copy g m n no_copy) content
+
+-- a page leaves its frame, and the registration is dropped with it
 abbrev pub UnregistersMoves : Type 0
 UnregistersMoves = (w : World) (g : Holdings) (content : ℕ → ℕ → List ℕ) (m n index : ℕ) (answer : Reply) (v : Held)
     → Tied w g content → HasFrame g m n index → (g.copies m n).marked ≡ false → UnregistersFrame g.facility m index answer v

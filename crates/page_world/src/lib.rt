@@ -13,7 +13,7 @@ ghost use Rattle.page_world.specs.Groups.{FallsMoves, FallsAgain, ForwardsMoves,
 ghost use Rattle.page_world.specs.Losses.{StaysTied, LosesMoves, ReadsLogMoves, RebuildsMoves, RebuiltMoves};
 ghost use Rattle.page_world.specs.Newest.{ValidIsNewest, CleanIsOnDisk};
 ghost use Rattle.page_world.specs.Owners.{LocksMoves, UnlocksMoves, PurgesMoves, ForcesMoves};
-ghost use Rattle.page_world.specs.Frames.{PlacesStays, FillsMoves, RedoesMoves, LeavesMoves, UnregistersMoves, TestsTell};
+ghost use Rattle.page_world.specs.Frames.{PlacesStays, FillsMoves, RedoesMoves, LeavesMoves, AsideMoves, UnregistersMoves, TestsTell};
 ghost use Rattle.page_world.specs.Refusals.{ReadRefused, WriteRefused};
 
 use page_protocol::logs_have_prefixes;
@@ -36,12 +36,14 @@ pub fn writes_are_moves()
 {}
 
 /// A page that is placed in a free frame is no move; one that fills its frame from disk, one that a restart brings to its last
-/// version, and one that leaves its frame, with or without the registration, are one move each.
+/// version, one that leaves its frame, with or without the registration, and a changed one that a restart puts aside, are one
+/// move each.
 pub fn frames_are_moves()
     ensures places { PlacesStays }
     ensures fills { FillsMoves }
     ensures redoes { RedoesMoves }
     ensures leaves { LeavesMoves }
+    ensures aside { AsideMoves }
     ensures unregisters { UnregistersMoves }
 {}
 

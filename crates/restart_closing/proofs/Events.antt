@@ -55,7 +55,7 @@ use Rattle.restart_resources.specs.Events.{Happens, Runs, World}
 use Rattle.restart_resources.specs.Held.{Held}
 use Rattle.restart_resources.specs.Lending.{Gives, is_hand, lent_bytes, with_bytes}
 use Rattle.restart_resources.specs.Settled.{settled}
-use Rattle.restart_closing.specs.Closing.{ClosesBegin, ClosesStay, HasLog, IsRead, IsUnread, LeavesOpen, ReadsAll, RestartCloses, StillCloses, TransClose, Waits, trans_of}
+use Rattle.restart_closing.specs.Closing.{ClosesBegin, ClosesStay, HasLog, IsRead, IsUnread, LeavesOpen, ListedBelow, ReadsAll, RestartCloses, StillCloses, TransClose, Waits, trans_of}
 use Rattle.restart_closing.proofs.Logs.{Facts, closed_on, each, opens_on}
 use Rattle.restart_closing.proofs.Needs.{FitsSent, draws_undo, fits_sent}
 use Rattle.restart_closing.proofs.Replies.{IsWritten, IsWrittenFor, locals, settles}
@@ -149,6 +149,7 @@ unread_closes log rest pend s t unread still logs trans c = record {
   trans = subst (TransClose log pend) (sym trans) c.trans;
   unread = λ e. record { idle = (c.unread unread).idle; none = trans ∙ (c.unread unread).none; alike = (c.unread unread).alike };
   read = λ e. absurd (both_ways t.own.is_read still e);
+  named = λ n low. c.named n (subst (λ (z : TransState). ListedBelow n z.list) trans low);
 }
 
 -- the number of the last record is one of a record
@@ -176,6 +177,7 @@ module _ (facts : Facts) where
       tail = all.tail;
       long = λ some. all.long;
     };
+    named = λ n low. tt;
   })
     where
       never : true ≡ false → ⊥
@@ -252,6 +254,7 @@ cut_closes log rest pend s none read c = record {
   trans = c.trans;
   unread = λ e. absurd (both_ways s.own.is_read e read);
   read = λ _. record { opens = (c.read read).opens; tail = refl; long = λ some. absurd (some refl) };
+  named = c.named;
 }
 
 -- ---- the log buffer is on disk
@@ -278,6 +281,7 @@ forced_closes facts log rest pend s none tail read c = record {
     tail = tail;
     long = λ some. absurd (some tail);
   };
+  named = λ n low. tt;
 }
 
 -- ---- calls
@@ -442,4 +446,5 @@ closes_begin log rest member s whole is_rest alike f = subst (λ (z : RestartSta
   trans = none_close log [];
   unread = λ _. record { idle = refl; none = refl; alike = alike };
   read = λ e. absurd (both_ways s.own.is_read (ap (λ (z : OwnState). z.is_read) f.own.rest) e);
+  named = λ n low. tt;
 })

@@ -7,3 +7,4 @@ pub mod Events
 pub mod Telling
 pub mod Failing
 pub mod Resting
+pub mod Few

@@ -16,6 +16,7 @@ use Rattle.log_record.specs.Changes.{inverse}
 use Rattle.log_rows.specs.Rows.{BothTell, is_closed}
 use Rattle.member_log.specs.Buffers.{LogBuffer, after_put}
 use Rattle.restart_records.specs.declared.trans.Newest.{Newest}
+use Rattle.log_trans.specs.declared.opened.OpenTran.{OpenTran}
 use Rattle.restart_records.specs.declared.trans.RestartTran.{RestartTran}
 use Rattle.restart_records.specs.Maps.{place_at}
 use Rattle.restart_records.specs.Own.{OwnState}
@@ -24,9 +25,9 @@ use Rattle.restart_records.specs.Written.{back_record, both_logged, ended_record
 use Rattle.restart_marks.specs.Moves.{closing_record, fits_in, may_close}
 use Rattle.restart_marks.specs.State.{RestartState}
 use Rattle.restart_marks.specs.Undoing.{may_undo, may_undo_as, undone_after, undone_as, undone_by}
-use Rattle.restart_closing.specs.Closing.{IsOf, IsRead, IsUnread, LeavesOpen, RestartCloses, TranCloses, TransClose, Waits, trans_of}
+use Rattle.restart_closing.specs.Closing.{IsOf, IsRead, IsUnread, LeavesOpen, ListedBelow, RestartCloses, TranCloses, TransClose, Waits, trans_of}
 use Rattle.restart_closing.proofs.Logs.{AreBack, IsBack, both_all, closed_last}
-use Rattle.restart_closing.proofs.Trans.{at_place, back_same, end_same, none_some, same_some, trans_back, trans_ended, trans_more}
+use Rattle.restart_closing.proofs.Trans.{IsOpenAt, at_place, back_open, back_same, end_same, none_some, same_some, trans_back, trans_ended, trans_more}
 
 -- ---- records are put behind those that wait
 abbrev pub Puts : List ℕ → List ℕ → List LogRecord → RestartState → Type 0
@@ -75,6 +76,7 @@ same_closes s t e log rest pend c = record {
   trans = subst (TransClose log pend) (sym e.trans) c.trans;
   unread = λ r. unread (c.unread (ap (λ (o : OwnState). o.is_read) (sym e.own) ∙ r));
   read = λ r. read (c.read (ap (λ (o : OwnState). o.is_read) (sym e.own) ∙ r));
+  named = λ n low. c.named n (subst (λ (z : TransState). ListedBelow n z.list) e.trans low);
 }
   where
     unread : IsUnread log pend s → IsUnread log pend t
@@ -126,15 +128,18 @@ not_unread log rest pend s c some = by s.own.is_read refl
     by true e = e
     by false e = absurd (some (c.unread e).none)
 
-put_closes : (log rest : List ℕ) (pend new : List LogRecord) (s t : RestartState) → s.own.is_read ≡ true → t.own ≡ s.own → trans_of t.trans.list ≡ trans_of s.trans.list
+put_closes : (log rest : List ℕ) (pend new : List LogRecord) (s t : RestartState) → s.own.is_read ≡ true → t.own ≡ s.own → trans_of t.trans.list ≡ trans_of s.trans.list → ((c : ℕ) → ListedBelow c s.trans.list → AllByRecursion (λ (r : LogRecord). r.tran ≤ c) new)
     → Waits (pend ++ new) t.log → TransClose log (pend ++ new) t.trans → RestartCloses log rest pend s → RestartCloses log rest (pend ++ new) t
-put_closes log rest pend new s t read own trans waits closes c = record {
+put_closes log rest pend new s t read own trans names waits closes c = record {
   whole = c.whole;
   is_rest = c.is_rest;
   waits = waits;
   trans = closes;
   unread = λ e. absurd (both_ways s.own.is_read (ap (λ (o : OwnState). o.is_read) (sym own) ∙ e) read);
   read = λ e. still (c.read read);
+  named = λ n low.
+      let before : ListedBelow n s.trans.list = subst (λ (z : List OpenTran). AllByRecursion (λ (x : OpenTran). x.id ≤ n) z) trans low in
+      both_all (λ (r : LogRecord). r.tran ≤ n) pend new (c.named n before) (names n before);
 }
   where
     still : IsRead log rest s → IsRead log rest t
@@ -160,6 +165,12 @@ named log pend t id x h e = by (place_at t.places id) refl e
     by : (o : Option ℕ) → place_at t.places id ≡ o → tran_at t o ≡ Some x → Named log pend t id x
     by None placed there = absurd (none_some x there)
     by (Some at) placed there = record { at = at; there = there; closes = at_place (TranCloses log pend) t.list at x there h.list; is = own at there (h.places id at placed) }
+
+-- its number is among theirs
+listed_at : (c : ℕ) (list : List RestartTran) (at : ℕ) (x : RestartTran) → slice_get list at ≡ Some x → ListedBelow c list → x.tran.id ≤ c
+listed_at c [] at x is low = absurd (none_some x is)
+listed_at c (z ∷ zs) zero x is low = subst (λ (w : RestartTran). w.tran.id ≤ c) (same_some z x is) low.0
+listed_at c (z ∷ zs) (suc at) x is low = listed_at c zs at x is low.1
 
 -- ---- a change is taken back
 pub as_written : (v : Version) (n : ℕ) → IsNumber v n → IsNumber version.Two n
@@ -237,6 +248,14 @@ tran_of_newest : (o : Option RestartTran) (it : Newest) → newest_by o ≡ Some
 tran_of_newest None it e = absurd (none_some it e)
 tran_of_newest (Some x) it e = (x, refl, e)
 
+-- it is open still
+newest_open : (x : RestartTran) (it : Newest) → newest_of x ≡ Some it → is_open x ≡ true
+newest_open x it e = by (is_open x) e
+  where
+    by : (b : Bool) → (if b && not (x.stands == 0) then newest_at (slice_get x.tran.undo (x.stands - 1)) else None) ≡ Some it → b ≡ true
+    by true q = refl
+    by false q = absurd (none_some it q)
+
 none_newest : (t : TransState) (id : ℕ) (it : Newest) → newest t id ≡ Some it → t ≡ no_trans → ⊥
 none_newest t id it e none = none_some it (sym (ap (λ (z : TransState). newest z id) none) ∙ e)
 
@@ -260,6 +279,9 @@ module _ (law : BothTell) where
       n : Named log pend s.trans id found.0
       n = named log pend s.trans id found.0 c.trans found.1
 
+      id_below : (k : ℕ) → ListedBelow k s.trans.list → id ≤ k
+      id_below k low = subst (λ (z : ℕ). z ≤ k) n.is (listed_at k s.trans.list n.at found.0 n.there low)
+
       some : id ≢ 0
       some e = n.closes.named (n.is ∙ e)
 
@@ -271,6 +293,9 @@ module _ (law : BothTell) where
 
       q_ok : IsAllowed q
       q_ok = ended_allowed id lrsn some number drawn
+
+      goes : IsOpenAt s.trans id
+      goes = subst (λ (z : Option RestartTran). IfSome z (λ (x : RestartTran). is_open x ≡ true)) (sym found.1) (newest_open found.0 it found.2)
 
       read : s.own.is_read ≡ true
       read = not_unread log rest pend s c (none_newest s.trans id it new)
@@ -289,14 +314,16 @@ module _ (law : BothTell) where
         r ∷ q ∷ [],
         put_closes log rest pend (r ∷ q ∷ []) s t read own
             (ap (λ (z : TransState). trans_of z.list) ends ∙ (end_same (after_back s.trans id) id ∙ back_same s.trans id))
+            (λ n low. (id_below n low, (id_below n low, tt)))
             (subst (Waits (pend ++ r ∷ q ∷ [])) (sym logs) both)
             (subst (TransClose log (pend ++ r ∷ q ∷ [])) (sym ends)
-            (trans_ended log (pend ++ r ∷ q ∷ []) (after_back s.trans id) id (closed_last law pend (r ∷ q ∷ []) id (own_closed id ((id == id) && false) (eq-eqb id id refl))) (back (r ∷ q ∷ [])))) c,
+            (trans_ended log (pend ++ r ∷ q ∷ []) (after_back s.trans id) id (back_open s.trans id goes) (closed_last law pend (r ∷ q ∷ []) id (own_closed id ((id == id) && false) (eq-eqb id id refl))) (back (r ∷ q ∷ [])))) c,
       )
       by false logs ends = (
         r ∷ [],
         put_closes log rest pend (r ∷ []) s t read own
             (ap (λ (z : TransState). trans_of z.list) ends ∙ back_same s.trans id)
+            (λ n low. (id_below n low, tt))
             (subst (Waits (pend ++ r ∷ [])) (sym logs) first)
             (subst (TransClose log (pend ++ r ∷ [])) (sym ends) (back (r ∷ []))) c,
       )
@@ -314,9 +341,9 @@ module _ (law : BothTell) where
   step_undo s id lrsn drawn = step_if (may_undo s id lrsn) s (undone_as s id lrsn (newest s.trans id)) s (λ e. step_undone s id lrsn (newest s.trans id) drawn refl) (λ e. step_itself s)
 
   -- ---- a transaction is closed
-  undone_tran : (o : Option RestartTran) → is_undone_by o ≡ true → (x : RestartTran) × (o ≡ Some x)
+  undone_tran : (o : Option RestartTran) → is_undone_by o ≡ true → (x : RestartTran) × (o ≡ Some x) × (is_open x ≡ true)
   undone_tran None e = absurd cc
-  undone_tran (Some x) e = (x, refl)
+  undone_tran (Some x) e = (x, refl, (and_parts (is_open x) (x.stands == 0) e).0)
 
   none_undone : (t : TransState) (id : ℕ) → is_undone t id ≡ true → t ≡ no_trans → ⊥
   none_undone t id e none = never (sym (ap (λ (z : TransState). is_undone z id) none) ∙ e)
@@ -328,25 +355,31 @@ module _ (law : BothTell) where
       → Puts log rest pend (record s { log = after_put s.log (closing_record s id); trans = after_end s.trans id })
   close_with log rest pend s id undone c = (
     q ∷ [],
-    put_closes log rest pend (q ∷ []) s (record s { log = after_put s.log q; trans = after_end s.trans id }) read refl (end_same s.trans id)
+    put_closes log rest pend (q ∷ []) s (record s { log = after_put s.log q; trans = after_end s.trans id }) read refl (end_same s.trans id) (λ n low. (id_below n low, tt))
         (waits_more pend s.log q (ended_allowed id s.log.last some number c.waits.number) (refl, tt) c.waits.number c.waits)
-        (trans_ended log (pend ++ q ∷ []) s.trans id (closed_last law pend (q ∷ []) id (ends_own id s.log.last)) (trans_more law log pend (q ∷ []) s.trans c.trans)) c,
+        (trans_ended log (pend ++ q ∷ []) s.trans id goes (closed_last law pend (q ∷ []) id (ends_own id s.log.last)) (trans_more law log pend (q ∷ []) s.trans c.trans)) c,
   )
     where
       q : LogRecord
       q = closing_record s id
 
-      found : (x : RestartTran) × (tran_in s.trans id ≡ Some x)
+      found : (x : RestartTran) × (tran_in s.trans id ≡ Some x) × (is_open x ≡ true)
       found = undone_tran (tran_in s.trans id) undone
 
       n : Named log pend s.trans id found.0
       n = named log pend s.trans id found.0 c.trans found.1
+
+      id_below : (k : ℕ) → ListedBelow k s.trans.list → id ≤ k
+      id_below k low = subst (λ (z : ℕ). z ≤ k) n.is (listed_at k s.trans.list n.at found.0 n.there low)
 
       some : id ≢ 0
       some e = n.closes.named (n.is ∙ e)
 
       number : IsNumber version.Two id
       number = subst (IsNumber version.Two) n.is n.closes.has.number
+
+      goes : IsOpenAt s.trans id
+      goes = subst (λ (z : Option RestartTran). IfSome z (λ (x : RestartTran). is_open x ≡ true)) (sym found.1) found.2
 
       read : s.own.is_read ≡ true
       read = not_unread log rest pend s c (none_undone s.trans id undone)

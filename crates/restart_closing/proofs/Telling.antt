@@ -1,5 +1,5 @@
 -- What a log leaves open beside the transactions of a restart.
-use Rattle.std.proofs.Common.{◌≡◌, ℕ, refl, sym, ◌∙◌, ap, subst, arith, Bool, true, false, cond, inl, inr, List, [], ◌∷◌, ◌++◌, take, drop, length}
+use Rattle.std.proofs.Common.{◌≡◌, ℕ, ◌≤◌, refl, sym, ◌∙◌, ap, subst, arith, Bool, true, false, cond, inl, inr, List, [], ◌∷◌, ◌++◌, take, drop, length}
 use Rattle.std.specs.Prelude.{◌≢◌, ◌⊎◌, ◌==◌, ◌&&◌, ◌||◌, map, filter}
 use Rattle.std.specs.List.{AllByRecursion}
 use Rattle.std.proofs.lemmas.Bool.{and_parts, both_ways, eqb-true, or_cases, or_left, or_right}
@@ -17,8 +17,8 @@ use Rattle.restart_records.specs.declared.trans.RestartStage.TheVariants as stag
 use Rattle.restart_records.specs.declared.trans.RestartTran.{RestartTran}
 use Rattle.restart_records.specs.Trans.{is_open, kept_in, open_of, opened_among}
 use Rattle.restart_marks.specs.State.{RestartState}
-use Rattle.restart_closing.specs.Closing.{HasEnd, IsClosedIn, LeavesOpen, RestartCloses, TranCloses, trans_of}
-use Rattle.restart_closing.specs.Leaving.{HandsAll, IsOfLeft, OverAreClosed, RestsOpen, StopsOpen, has_left, is_left}
+use Rattle.restart_closing.specs.Closing.{HasEnd, IsClosedIn, LeavesOpen, RestartCloses, TranCloses, left_among, one_left, trans_of}
+use Rattle.restart_closing.specs.Leaving.{HandsAll, IsOfLeft, NoneIsLeft, OverAreClosed, RestsOpen, StopsOpen, has_left, is_left}
 use Rattle.restart_closing.proofs.Logs.{Facts, IsBack, changed_before, each, front_all, none_names}
 
 never : false ≡ true → ⊥
@@ -27,6 +27,19 @@ never e = cc
 -- ---- one that is over is closed
 pub over_closed : OverAreClosed
 over_closed log rest pend s c = each (TranCloses log pend) (λ (x : RestartTran). x.stage ≡ stage.Over → IsClosedIn log x.tran.id) (λ x h. h.over) s.trans.list c.trans.list
+
+-- ---- each is over where none is counted as left
+over_stage : (s : RestartStage) → one_left s ≡ 0 → s ≡ stage.Over
+over_stage stage.Open e = cc
+over_stage stage.Ended e = cc
+over_stage stage.Over e = refl
+
+none_among : (list : List RestartTran) → left_among list ≡ 0 → AllByRecursion (λ (x : RestartTran). x.stage ≡ stage.Over) list
+none_among [] none = tt
+none_among (x ∷ xs) none = (over_stage x.stage (omega (arith, none)), none_among xs (omega (arith, none)))
+
+pub none_left : NoneIsLeft
+none_left log rest pend s c short none = none_among s.trans.list (let few = c.trans.left short in omega (arith, few, none))
 
 -- ---- what is handed over
 

@@ -1,6 +1,6 @@
 -- What a change of the transactions of a restart leaves closed.
-use Rattle.std.proofs.Common.{◌≡◌, ℕ, zero, suc, refl, sym, ◌∙◌, ap, subst, arith, Bool, true, false, cond, inl, inr, List, [], ◌∷◌, ◌++◌, length, Option, Some, None}
-use Rattle.std.specs.Prelude.{◌≢◌, ◌⊎◌, ◌-◌, ◌==◌, nat_lt, map, IfSome, slice_get, slice_set}
+use Rattle.std.proofs.Common.{◌≡◌, ℕ, zero, suc, ◌+◌, ◌<◌, ◌≤◌, refl, sym, ◌∙◌, ap, subst, arith, Bool, true, false, cond, inl, inr, List, [], ◌∷◌, ◌++◌, length, Option, Some, None}
+use Rattle.std.specs.Prelude.{◌≢◌, ◌⊎◌, ◌-◌, ◌^◌, ◌==◌, min, nat_lt, map, IfSome, slice_get, slice_set}
 use Rattle.std.specs.List.{AllByRecursion}
 use Rattle.std.specs.Ordering.{nat_cmp, is_eq, match_ordering}
 use Rattle.std.specs.declared.cmp.Ordering.{Ordering}
@@ -8,6 +8,7 @@ use Rattle.std.specs.declared.cmp.Ordering.TheVariants.{Less, Equal, Greater}
 use Rattle.std.specs.BTreeMap.{is_at, insert_entry}
 use Rattle.std.specs.Map.{lookup}
 use Rattle.std.proofs.lemmas.Bool.{eqb-true}
+use Rattle.std.proofs.lemmas.List.{length-append, length-set}
 use Rattle.ds_model.specs.declared.log.LogRecord.{LogRecord}
 use Rattle.log_opens.specs.Puts.{HasAllowed}
 use Rattle.log_rows.specs.Rows.{BothTell, is_closed}
@@ -16,8 +17,8 @@ use Rattle.restart_records.specs.declared.trans.RestartStage.{RestartStage}
 use Rattle.restart_records.specs.declared.trans.RestartStage.TheVariants as stage
 use Rattle.restart_records.specs.declared.trans.RestartTran.{RestartTran}
 use Rattle.restart_records.specs.Maps.{NumberPlaces, place_at, with_place}
-use Rattle.restart_records.specs.Trans.{TransState, added, after_back, after_back_at, after_end, after_end_at, after_finish, after_finish_at, all_added, ended_from, is_open, is_open_stage, no_trans, over_from, taken_back_from}
-use Rattle.restart_closing.specs.Closing.{HasEnd, IsClosedIn, IsOf, TranCloses, TransClose, trans_of}
+use Rattle.restart_records.specs.Trans.{TransState, added, after_back, after_back_at, after_end, after_end_at, after_finish, after_finish_at, all_added, ended_from, is_open, is_open_stage, no_trans, over_from, taken_back_from, tran_at, tran_in}
+use Rattle.restart_closing.specs.Closing.{HasEnd, IsClosedIn, IsOf, TranCloses, TransClose, left_among, one_left, trans_of}
 use Rattle.restart_closing.proofs.Logs.{each, end_more}
 
 -- ---- one of a list
@@ -55,12 +56,32 @@ set_trans [] at x y is same = refl
 set_trans (z ∷ zs) zero x y is same = ap (λ (t : OpenTran). t ∷ trans_of zs) (same ∙ ap (λ (w : RestartTran). w.tran) (sym (same_some z x is)))
 set_trans (z ∷ zs) (suc at) x y is same = ap (λ (ts : List OpenTran). z.tran ∷ ts) (set_trans zs at x y is same)
 
+-- how many are left
+set_left : (list : List RestartTran) (at : ℕ) (x y : RestartTran) → slice_get list at ≡ Some x → left_among (slice_set list at y) + one_left x.stage ≡ left_among list + one_left y.stage
+set_left [] at x y is = absurd (none_some x is)
+set_left (z ∷ zs) zero x y is = (let e = ap (λ (w : RestartTran). one_left w.stage) (same_some z x is) in omega (arith, e))
+set_left (z ∷ zs) (suc at) x y is = (let rest = set_left zs at x y is in omega (arith, rest))
+
+left_most : (list : List RestartTran) → left_among list ≤ length list
+left_most [] = omega arith
+left_most (x ∷ xs) = (let one = most x.stage in let rest = left_most xs in omega (arith, one, rest))
+  where
+    most : (s : RestartStage) → one_left s ≤ 1
+    most stage.Open = omega arith
+    most stage.Ended = omega arith
+    most stage.Over = omega arith
+
+left_push : (list : List RestartTran) (x : RestartTran) → left_among (list ++ x ∷ []) ≡ left_among list + one_left x.stage
+left_push [] x = omega arith
+left_push (z ∷ zs) x = (let rest = left_push zs x in omega (arith, rest))
+
 -- ---- more records wait
 pub trans_more : BothTell → (log : List ℕ) (pend new : List LogRecord) (t : TransState) → TransClose log pend t → TransClose log (pend ++ new) t
 trans_more law log pend new t h = record {
   list = each (TranCloses log pend) (TranCloses log (pend ++ new)) more t.list h.list;
   places = h.places;
   ending = h.ending;
+  left = h.left;
 }
   where
     more : (x : RestartTran) → TranCloses log pend x → TranCloses log (pend ++ new) x
@@ -69,11 +90,12 @@ trans_more law log pend new t h = record {
 -- ---- one of them is another
 put_in : (log : List ℕ) (pend : List LogRecord) (t : TransState) (at : ℕ) (x y : RestartTran) → slice_get t.list at ≡ Some x → y.tran ≡ x.tran → TranCloses log pend y
     → (ending : Option ℕ) → IfSome ending (λ (k : ℕ). IfSome (slice_get (slice_set t.list at y) k) (λ (z : RestartTran). z.stage ≡ stage.Ended))
-    → (left : ℕ) → TransClose log pend t → TransClose log pend (record { places = t.places; list = slice_set t.list at y; left = left; ending = ending })
-put_in log pend t at x y is same new ending ends left h = record {
+    → (left : ℕ) → (length t.list < 2 ^ 64 → left_among (slice_set t.list at y) ≤ left) → TransClose log pend t → TransClose log pend (record { places = t.places; list = slice_set t.list at y; left = left; ending = ending })
+put_in log pend t at x y is same new ending ends left few h = record {
   list = all_set (TranCloses log pend) t.list at y new h.list;
   places = λ id k there. set_keeps (IsOf id) t.list at k x y is (λ e. ap (λ (z : OpenTran). z.id) same ∙ e) (h.places id k there);
   ending = ends;
+  left = λ short. few (let long = length-set t.list at y in omega (arith, short, long));
 }
 
 abbrev IsEnded : Option RestartTran → Type 0
@@ -89,7 +111,7 @@ back_from log pend t at None is h = h
 back_from log pend t at (Some x) is h =
     let c : TranCloses log pend x = at_place (TranCloses log pend) t.list at x is h.list in
     let y : RestartTran = record x { stands = x.stands - 1 } in
-    put_in log pend t at x y is refl (record { named = c.named; has = c.has; ended = c.ended; over = c.over }) t.ending (still_ending t.list at x y t.ending is (λ e. e) h.ending) t.left h
+    put_in log pend t at x y is refl (record { named = c.named; has = c.has; ended = c.ended; over = c.over }) t.ending (still_ending t.list at x y t.ending is (λ e. e) h.ending) t.left (λ short. (let few = h.left short in let set = set_left t.list at x y is in omega (arith, few, set))) h
 
 back_at : (log : List ℕ) (pend : List LogRecord) (t : TransState) (o : Option ℕ) → TransClose log pend t → TransClose log pend (after_back_at t o)
 back_at log pend t None h = h
@@ -111,23 +133,52 @@ pub back_same : (t : TransState) (id : ℕ) → trans_of (after_back t id).list 
 back_same t id = back_same_at t (place_at t.places id)
 
 -- ---- an Ended record is put
-end_from : (log : List ℕ) (pend : List LogRecord) (t : TransState) (id at : ℕ) (o : Option RestartTran) → slice_get t.list at ≡ o → IsOf id o → is_closed pend id ≡ true → TransClose log pend t → TransClose log pend (ended_from t at o)
-end_from log pend t id at None is own closed h = absurd own
-end_from log pend t id at (Some x) is own closed h =
+-- the transaction of this number is open still
+abbrev pub IsOpenAt : TransState → ℕ → Type 0
+IsOpenAt t id = IfSome (tran_in t id) (λ (x : RestartTran). is_open x ≡ true)
+
+open_left : (s : RestartStage) → is_open_stage s ≡ true → one_left s ≡ 1
+open_left stage.Open e = refl
+open_left stage.Ended e = absurd cc
+open_left stage.Over e = absurd cc
+
+end_from : (log : List ℕ) (pend : List LogRecord) (t : TransState) (id at : ℕ) (o : Option RestartTran) → slice_get t.list at ≡ o → IsOf id o → IfSome o (λ (x : RestartTran). is_open x ≡ true) → is_closed pend id ≡ true → TransClose log pend t → TransClose log pend (ended_from t at o)
+end_from log pend t id at None is own goes closed h = absurd own
+end_from log pend t id at (Some x) is own goes closed h =
     let c : TranCloses log pend x = at_place (TranCloses log pend) t.list at x is h.list in
     let y : RestartTran = record x { stage = stage.Ended } in
     let waits : is_closed pend x.tran.id ≡ true = ap (λ (n : ℕ). is_closed pend n) own ∙ closed in
-    put_in log pend t at x y is refl (record { named = c.named; has = c.has; ended = λ e. inr waits; over = λ e. absurd (never e) }) (Some at) (set_there (λ (z : RestartTran). z.stage ≡ stage.Ended) t.list at y refl) t.left h
+    put_in log pend t at x y is refl (record { named = c.named; has = c.has; ended = λ e. inr waits; over = λ e. absurd (never e) }) (Some at) (set_there (λ (z : RestartTran). z.stage ≡ stage.Ended) t.list at y refl) t.left
+    (λ short. (let few = h.left short in let set = set_left t.list at x y is in let one = open_left x.stage goes in omega (arith, few, set, one))) h
   where
     never : stage.Ended ≡ stage.Over → ⊥
     never e = cc
 
-end_at : (log : List ℕ) (pend : List LogRecord) (t : TransState) (id : ℕ) (o : Option ℕ) → place_at t.places id ≡ o → is_closed pend id ≡ true → TransClose log pend t → TransClose log pend (after_end_at t o)
-end_at log pend t id None there closed h = h
-end_at log pend t id (Some at) there closed h = end_from log pend t id at (slice_get t.list at) refl (h.places id at there) closed h
+end_at : (log : List ℕ) (pend : List LogRecord) (t : TransState) (id : ℕ) (o : Option ℕ) → place_at t.places id ≡ o → IfSome (tran_at t o) (λ (x : RestartTran). is_open x ≡ true) → is_closed pend id ≡ true → TransClose log pend t → TransClose log pend (after_end_at t o)
+end_at log pend t id None there goes closed h = h
+end_at log pend t id (Some at) there goes closed h = end_from log pend t id at (slice_get t.list at) refl (h.places id at there) goes closed h
 
-pub trans_ended : (log : List ℕ) (pend : List LogRecord) (t : TransState) (id : ℕ) → is_closed pend id ≡ true → TransClose log pend t → TransClose log pend (after_end t id)
-trans_ended log pend t id closed h = end_at log pend t id (place_at t.places id) refl closed h
+pub trans_ended : (log : List ℕ) (pend : List LogRecord) (t : TransState) (id : ℕ) → IsOpenAt t id → is_closed pend id ≡ true → TransClose log pend t → TransClose log pend (after_end t id)
+trans_ended log pend t id goes closed h = end_at log pend t id (place_at t.places id) refl goes closed h
+
+-- so it is behind a change that is taken back
+back_goes : (t : TransState) (at : ℕ) (o : Option RestartTran) → slice_get t.list at ≡ o → IfSome o (λ (x : RestartTran). is_open x ≡ true) → IfSome (slice_get (taken_back_from t at o).list at) (λ (x : RestartTran). is_open x ≡ true)
+back_goes t at None is goes = subst (λ (z : Option RestartTran). IfSome z (λ (x : RestartTran). is_open x ≡ true)) (sym is) goes
+back_goes t at (Some x) is goes = set_there (λ (z : RestartTran). is_open z ≡ true) t.list at (record x { stands = x.stands - 1 }) goes
+
+back_placed : (t : TransState) (at : ℕ) (o : Option RestartTran) → (taken_back_from t at o).places ≡ t.places
+back_placed t at None = refl
+back_placed t at (Some x) = refl
+
+back_open_at : (t : TransState) (id : ℕ) (o : Option ℕ) → place_at t.places id ≡ o → IfSome (tran_at t o) (λ (x : RestartTran). is_open x ≡ true) → IsOpenAt (after_back_at t o) id
+back_open_at t id None there goes = subst (λ (z : Option ℕ). IfSome (tran_at t z) (λ (x : RestartTran). is_open x ≡ true)) (sym there) goes
+back_open_at t id (Some at) there goes =
+    let u : TransState = taken_back_from t at (slice_get t.list at) in
+    let placed : place_at u.places id ≡ Some at = ap (λ (z : NumberPlaces). place_at z id) (back_placed t at (slice_get t.list at)) ∙ there in
+    subst (λ (z : Option ℕ). IfSome (tran_at u z) (λ (x : RestartTran). is_open x ≡ true)) (sym placed) (back_goes t at (slice_get t.list at) refl goes)
+
+pub back_open : (t : TransState) (id : ℕ) → IsOpenAt t id → IsOpenAt (after_back t id) id
+back_open t id goes = back_open_at t id (place_at t.places id) refl goes
 
 end_same_from : (t : TransState) (at : ℕ) (o : Option RestartTran) → slice_get t.list at ≡ o → trans_of (ended_from t at o).list ≡ trans_of t.list
 end_same_from t at None is = refl
@@ -145,16 +196,19 @@ forced_tran : (log now : List ℕ) (pend : List LogRecord) → ((id : ℕ) → H
 forced_tran log now pend go x c = record { named = c.named; has = c.has; ended = λ e. inl (go x.tran.id (c.ended e)); over = λ e. go x.tran.id (inl (c.over e)) }
 
 over_place : (now : List ℕ) (t : TransState) (at : ℕ) (o : Option RestartTran) → slice_get t.list at ≡ o → IsEnded o → TransClose now [] t → TransClose now [] (over_from (record t { ending = None }) at o)
-over_place now t at None is ends h = record { list = h.list; places = h.places; ending = tt }
+over_place now t at None is ends h = record { list = h.list; places = h.places; ending = tt; left = h.left }
 over_place now t at (Some x) is ends h =
     let c : TranCloses now [] x = at_place (TranCloses now []) t.list at x is h.list in
     let y : RestartTran = record x { stage = stage.Over } in
     let shut : is_open x ≡ false = ap (λ (z : RestartStage). is_open_stage z) ends in
     let closed : IsClosedIn now x.tran.id = by x (c.ended shut) in
-    put_in now [] t at x y is refl (record { named = c.named; has = c.has; ended = λ e. inl closed; over = λ e. closed }) None tt (t.left - 1) h
+    put_in now [] t at x y is refl (record { named = c.named; has = c.has; ended = λ e. inl closed; over = λ e. closed }) None tt (t.left - 1) (λ short. (let few = h.left short in let set = set_left t.list at x y is in let one = open_ends x.stage ends in omega (arith, few, set, one))) h
   where
     never : false ≡ true → ⊥
     never e = cc
+
+    open_ends : (s : RestartStage) → s ≡ stage.Ended → one_left s ≡ 1
+    open_ends s e = ap one_left e
 
     by : (x : RestartTran) → HasEnd now [] x.tran.id → IsClosedIn now x.tran.id
     by x (inl closed) = closed
@@ -166,7 +220,7 @@ finish_at now t (Some at) ends h = over_place now t at (slice_get t.list at) ref
 
 pub trans_forced : (log now : List ℕ) (pend : List LogRecord) (t : TransState) → ((id : ℕ) → HasEnd log pend id → IsClosedIn now id) → TransClose log pend t → TransClose now [] (after_finish t)
 trans_forced log now pend t go h =
-    finish_at now t t.ending h.ending (record { list = each (TranCloses log pend) (TranCloses now []) (forced_tran log now pend go) t.list h.list; places = h.places; ending = h.ending })
+    finish_at now t t.ending h.ending (record { list = each (TranCloses log pend) (TranCloses now []) (forced_tran log now pend go) t.list h.list; places = h.places; ending = h.ending; left = h.left })
 
 over_same : (t : TransState) (at : ℕ) (o : Option RestartTran) → slice_get t.list at ≡ o → trans_of (over_from (record t { ending = None }) at o).list ≡ trans_of t.list
 over_same t at None is = refl
@@ -238,6 +292,12 @@ entered_one log pend t o none new h = record {
   list = push_all (TranCloses log pend) t.list x h.list (record { named = new.0; has = new.1; ended = λ e. absurd (shut e); over = λ e. absurd (never e) });
   places = λ id at there. by id at (found t.places o.id (length t.list) id at there);
   ending = subst (λ (k : Option ℕ). IfSome k (λ (at : ℕ). IsEnded (slice_get (t.list ++ x ∷ []) at))) (sym none) tt;
+  left = λ short.
+      let long = length-append t.list (x ∷ []) in
+      let few = h.left (omega (arith, short, long)) in
+      let push = left_push t.list x in
+      let most = left_most t.list in
+      omega (arith, short, long, few, push, most);
 }
   where
     x : RestartTran
@@ -258,7 +318,7 @@ entered_all log pend t [] none new h = h
 entered_all log pend t (o ∷ os) none new h = entered_all log pend (added t o) os none new.1 (entered_one log pend t o none new.0 h)
 
 pub none_close : (log : List ℕ) (pend : List LogRecord) → TransClose log pend no_trans
-none_close log pend = record { list = tt; places = λ id at there. absurd (none_some at there); ending = tt }
+none_close log pend = record { list = tt; places = λ id at there. absurd (none_some at there); ending = tt; left = λ short. omega arith }
 
 pub trans_entered : (log : List ℕ) (pend : List LogRecord) (os : List OpenTran) → AllByRecursion MayEnter os → TransClose log pend (all_added no_trans os)
 trans_entered log pend os new = entered_all log pend no_trans os refl new (none_close log pend)

@@ -1,5 +1,5 @@
 -- That what a restart has taken back is closed in the log on disk.
-use Rattle.std.specs.Prelude.{◌≡◌, ◌≢◌, ◌⊎◌, ℕ, ◌-◌, nat_lt, Bool, true, false, List, [], ◌∷◌, ◌++◌, length, map, slice_get, Option, None, Some, IfSome}
+use Rattle.std.specs.Prelude.{◌≡◌, ◌≢◌, ◌⊎◌, ℕ, ◌+◌, ◌-◌, ◌^◌, ◌<◌, ◌≤◌, nat_lt, Bool, true, false, List, [], ◌∷◌, ◌++◌, length, map, slice_get, Option, None, Some, IfSome}
 use Rattle.std.specs.List.{AllByRecursion}
 use Rattle.ds_disk.specs.Contents.{Contents, log_of}
 use Rattle.ds_model.specs.RecordBytes.{IsAllowed, IsNumber, log_bytes}
@@ -19,6 +19,7 @@ use Rattle.log_trans.specs.Courses.{open_trans}
 use Rattle.member_intents.specs.declared.outcome.Answered.{Answered}
 use Rattle.member_intents.specs.declared.outcome.Answered.TheVariants as answered
 use Rattle.member_log.specs.Buffers.{LogBuffer}
+use Rattle.restart_records.specs.declared.trans.RestartStage.{RestartStage}
 use Rattle.restart_records.specs.declared.trans.RestartStage.TheVariants as stage
 use Rattle.restart_records.specs.declared.trans.RestartTran.{RestartTran}
 use Rattle.restart_records.specs.Maps.{place_at}
@@ -84,14 +85,30 @@ abbrev pub IsOf : ℕ → Option RestartTran → Type 0
 IsOf id None = ⊥
 IsOf id (Some x) = x.tran.id ≡ id
 
--- at the place of a number its transaction stands; and of the one at the place that is known as ending the Ended record was put
+-- how many aren't over
+abbrev pub one_left : RestartStage → ℕ
+one_left stage.Open = 1
+one_left stage.Ended = 1
+one_left stage.Over = 0
+
+abbrev pub left_among : List RestartTran → ℕ
+left_among [] = 0
+left_among (x ∷ xs) = one_left x.stage + left_among xs
+
+-- At the place of a number its transaction stands; and of the one at the place that is known as ending the Ended record was put. No fewer are counted
+-- as left than aren't over, if they can be counted with 64 bits.
 pub record TransClose (log : List ℕ) (pend : List LogRecord) (t : TransState) : Type 0 where
   pub list : AllByRecursion (TranCloses log pend) t.list
   pub places : (id at : ℕ) → place_at t.places id ≡ Some at → IsOf id (slice_get t.list at)
   pub ending : IfSome t.ending (λ (at : ℕ). IfSome (slice_get t.list at) (λ (x : RestartTran). x.stage ≡ stage.Ended))
+  pub left : length t.list < 2 ^ 64 → left_among t.list ≤ t.left
 
 abbrev pub trans_of : List RestartTran → List OpenTran
 trans_of list = map (λ (x : RestartTran). x.tran) list
+
+-- none of their numbers is above this one
+abbrev pub ListedBelow : ℕ → List RestartTran → Type 0
+ListedBelow c list = AllByRecursion (λ (t : OpenTran). t.id ≤ c) (trans_of list)
 
 -- Until the log is read, no record waits, and nothing is known of what it leaves open.
 pub record IsUnread (log : List ℕ) (pend : List LogRecord) (s : RestartState) : Type 0 where
@@ -105,7 +122,8 @@ pub record IsRead (log rest : List ℕ) (s : RestartState) : Type 0 where
   pub tail : s.own.tail ≡ length rest
   pub long : s.own.tail ≢ 0 → s.own.long ≡ length log
 
--- The log on disk has these whole records, and then a rest that is none; and these records wait in the log buffer.
+-- The log on disk has these whole records, and then a rest that is none; and these records wait in the log buffer. Each names one of the restart's
+-- transactions, so by no number above all of theirs.
 pub record RestartCloses (log rest : List ℕ) (pend : List LogRecord) (s : RestartState) : Type 0 where
   pub whole : AreWhole log
   pub is_rest : IsRest rest
@@ -113,6 +131,7 @@ pub record RestartCloses (log rest : List ℕ) (pend : List LogRecord) (s : Rest
   pub trans : TransClose log pend s.trans
   pub unread : s.own.is_read ≡ false → IsUnread log pend s
   pub read : s.own.is_read ≡ true → IsRead log rest s
+  pub named : (c : ℕ) → ListedBelow c s.trans.list → AllByRecursion (λ (r : LogRecord). r.tran ≤ c) pend
 
 -- ---- so it is where a restart begins, over a log that leaves the same open wherever reading of it may begin
 

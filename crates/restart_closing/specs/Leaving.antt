@@ -1,5 +1,5 @@
 -- What the log of a restart leaves open, as it hands over, and wherever it stops.
-use Rattle.std.specs.Prelude.{◌≡◌, ◌⊎◌, ℕ, ◌==◌, ◌&&◌, ◌||◌, Bool, true, false, List, [], ◌∷◌, ◌++◌, take}
+use Rattle.std.specs.Prelude.{◌≡◌, ◌⊎◌, ℕ, ◌^◌, ◌<◌, ◌≤◌, ◌==◌, ◌&&◌, ◌||◌, Bool, true, false, List, [], ◌∷◌, ◌++◌, length, take}
 use Rattle.std.specs.List.{AllByRecursion}
 use Rattle.ds_model.specs.Rows.{Spot}
 use Rattle.ds_model.specs.declared.log.LogRecord.{LogRecord}
@@ -23,6 +23,20 @@ use Rattle.restart_closing.specs.Closing.{HasLog, IsClosedIn, LeavesOpen, Restar
 abbrev pub OverAreClosed : Type 0
 OverAreClosed = (log rest : List ℕ) (pend : List LogRecord) (s : RestartState)
     → RestartCloses log rest pend s → AllByRecursion (λ (x : RestartTran). x.stage ≡ stage.Over → IsClosedIn log x.tran.id) s.trans.list
+
+-- ---- each is over where none is counted as left
+
+abbrev pub NoneIsLeft : Type 0
+NoneIsLeft = (log rest : List ℕ) (pend : List LogRecord) (s : RestartState)
+    → RestartCloses log rest pend s → length s.trans.list < 2 ^ 64 → s.trans.left ≡ 0 → AllByRecursion (λ (x : RestartTran). x.stage ≡ stage.Over) s.trans.list
+
+-- and a log of fewer than 2^64 bytes leaves so few open
+abbrev pub LogsLeaveFew : Type 0
+LogsLeaveFew = (log : List ℕ) → length log < 2 ^ 64 → (start : ℕ) (records : List LogRecord) → AreLastFrom log start records → length (open_trans records) < 2 ^ 64
+
+-- and by no number above those by which its records name their transactions
+abbrev pub LogsLeaveBelow : Type 0
+LogsLeaveBelow = (c : ℕ) (records : List LogRecord) → AllByRecursion (λ (r : LogRecord). r.tran ≤ c) records → AllByRecursion (λ (t : OpenTran). t.id ≤ c) (open_trans records)
 
 -- ---- what is handed over is all that the log leaves open, where no record waits
 

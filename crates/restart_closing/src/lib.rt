@@ -6,7 +6,7 @@
 #![tactic(auto)]
 
 ghost use Rattle.restart_closing.specs.Closing.{ClosesBegin, ClosesStay};
-ghost use Rattle.restart_closing.specs.Leaving.{FailuresLeave, HandsAll, OverAreClosed, RestsOpen, StopsOpen};
+ghost use Rattle.restart_closing.specs.Leaving.{FailuresLeave, HandsAll, LogsLeaveBelow, LogsLeaveFew, NoneIsLeft, OverAreClosed, RestsOpen, StopsOpen};
 ghost use Rattle.restart_closing.specs.Resting.{HandsOver, RestsStay};
 
 use log_appends::{appends_tell, rests_tell};
@@ -27,12 +27,16 @@ pub fn restarts_close()
 }
 
 /// Then a transaction that is over is closed in the log; where no record waits in the log buffer, each that has changed a row is closed or
-/// handed over; and whatever of the buffer is on disk where the restart stops, what the log leaves open isn't over.
+/// handed over; and whatever of the buffer is on disk where the restart stops, what the log leaves open isn't over. Where no transaction is
+/// counted as left, each is over, if the log has fewer than 2^64 bytes.
 pub fn closings_tell()
     ensures over { OverAreClosed }
     ensures handed { HandsAll }
     ensures stops { StopsOpen }
     ensures rests { RestsOpen }
+    ensures left { NoneIsLeft }
+    ensures few { LogsLeaveFew }
+    ensures below { LogsLeaveBelow }
 {
     appends_tell();
     rests_tell();

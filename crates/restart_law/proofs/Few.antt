@@ -1,6 +1,6 @@
 -- How often names are needed of what a log leaves open: no more often than there are records.
 use Rattle.std.proofs.Common.{◌≡◌, ℕ, zero, suc, ◌+◌, ◌<◌, ◌≤◌, refl, sym, ◌∙◌, ap, subst, arith, inl, inr, Bool, true, false, cond, List, [], ◌∷◌, ◌++◌, length, length-append, take, drop, Option, Some, None, Result, Ok, Err}
-use Rattle.std.specs.Prelude.{◌-◌, ◌==◌, ◌^◌, ◌&&◌, T, not, nat_le, nat_lt, if◌then◌else◌, map, filter}
+use Rattle.std.specs.Prelude.{◌-◌, ◌==◌, ◌&&◌, T, not, nat_le, nat_lt, if◌then◌else◌, map, filter}
 use Rattle.std.proofs.lemmas.Bool.{and_parts, cases_Bool, leb-true, ltb-false}
 use Rattle.std.proofs.lemmas.List.{length-drop, length-take}
 use Rattle.std.specs.Ordering.{eq_by_cmp, is_eq, is_lt, nat_cmp}
@@ -22,7 +22,7 @@ use Rattle.log_record.specs.Logs.{Parts, behind, parts_from, parts_in, parts_up_
 use Rattle.log_record.specs.Fields.{◌>>=◌}
 use Rattle.log_record.specs.Reading.{ends_at, fields_in, is_size, record_in, whole_in}
 use Rattle.log_trans.specs.declared.course.Course.{Course}
-use Rattle.log_trans.specs.Courses.{Courses, after_body, course_of, courses_from, courses_of, is_next, is_open, open_among, open_tran, open_trans, undone_one, with_record}
+use Rattle.log_trans.specs.Courses.{Courses, after_body, course_of, courses_from, courses_of, is_next, is_open, open_among, open_tran, undone_one, with_record}
 use Rattle.restart_law.specs.Few.{NeedsAreCounted, ShortLogsNeedFew}
 use Rattle.restart_law.specs.Opens.{is_named, needs_among, needs_by, needs_in, needs_of, one_if}
 
@@ -205,9 +205,13 @@ sized_by bytes size false true false s c =
     let within : size ≤ length bytes = ltb-false (length bytes) size c in
     sized_whole bytes size (omega (arith, long), within)
 
+sized_of : (bytes : List ℕ) (size : ℕ) (few : Bool)
+    → Sized bytes (if few then Err fault.NotWhole else if not (is_size size) then Err (fault.Bad 0) else if nat_lt (length bytes) size then Err fault.NotWhole else whole_in bytes size)
+sized_of bytes size few = sized_by bytes size few (is_size size) (nat_lt (length bytes) size) refl refl
+
 record_sized : (bytes : List ℕ) → Sized bytes (record_in bytes)
 unfolding record_in
-record_sized bytes = sized_by bytes _ _ _ _ refl refl
+record_sized bytes = search (sized_of)
 
 abbrev Few : ℕ → Result Parts ℕ → Type 0
 Few most (Ok p) = length p.records ≤ most

@@ -1,7 +1,8 @@
 -- Any part of an event of a restart, by its intent: what it leaves of the page lock that the restart has, and of what it knows of retained pages.
 use Rattle.std.proofs.Common.{◌≡◌, ◌≢◌, ◌⊎◌, ℕ, ◌+◌, refl, sym, ◌∙◌, ap, subst, Bool, true, false, inl, inr, List, [], ◌∷◌, length, Option, Some, None, Result, Ok, Err}
 use Rattle.std.specs.Prelude.{◌==◌, ◌&&◌, ◌||◌, ◌^◌, ◌-◌, not, if◌then◌else◌, is_none, is_some, slice_get}
-use Rattle.std.proofs.lemmas.Bool.{both_ways, cond-false, cond-true, eq-eqb, ne_eqb}
+use Rattle.std.proofs.lemmas.Bool.{and_from, and_parts, both_ways, cond-false, cond-true, eq-eqb, ne_eqb}
+use Rattle.std.proofs.lemmas.Option.{none-some}
 use Rattle.ds_base.specs.declared.names.PageId.{PageId}
 use Rattle.ds_disk.specs.declared.disk.DiskError.{DiskError}
 use Rattle.ds_disk.specs.declared.disk.DiskError.TheVariants.{Failed, NoMemory}
@@ -27,6 +28,7 @@ use Rattle.list_structure.specs.declared.standing.MemberStatus.TheVariants.{Up}
 use Rattle.member_intents.specs.declared.outcome.Answered.{Answered}
 use Rattle.restart_records.specs.declared.queue.TurnKey.{TurnKey}
 use Rattle.restart_records.specs.Names.{mark_of}
+use Rattle.restart_records.specs.Queue.{taken_out}
 use Rattle.restart_records.specs.Own.{next_in}
 use Rattle.restart_records.specs.Trans.{newest, page_undone}
 use Rattle.restart_marks.specs.declared.intent.RestartIntent.{RestartIntent}
@@ -53,8 +55,8 @@ use Rattle.restart_resources.specs.Lending.{is_hand, lent_bytes, with_bytes}
 use Rattle.restart_resources.specs.Settled.{settle_undo_after, settled}
 use Rattle.retained_pages.specs.Retained.{CommandsSpare, KeepsOwn}
 use Rattle.restart_owners.specs.Listing.{IsListing}
-use Rattle.restart_owners.proofs.Following.{Follows, Near, draws, follows_on, kin, near, reads, reads_on, stales, tests, writes}
-use Rattle.restart_owners.proofs.Listing.{entered_rest, frees_hand, goes_listed, goes_near, lists_next, spares_same}
+use Rattle.restart_owners.proofs.Following.{Follows, Keyed, KnowsOn, Near, draws, follows_on, kin, knows_on, near, no_keys, reads, reads_on, stales, tests, writes}
+use Rattle.restart_owners.proofs.Listing.{entered_pages, entered_rest, frees_hand, goes_listed, goes_near, lists_next, spares_same}
 use Rattle.restart_owners.proofs.Keys.{is_itself, same_page}
 use Rattle.lock_restarts.specs.Sent.{SendsLawfully}
 use Rattle.page_world.specs.Numbers.{page_at, page_number}
@@ -69,11 +71,12 @@ pub data ClaimGoes (s t : RestartState) (x : RestartSent) (a : Answered) : Type 
   Takes : (p : PageId) → t.claim ≡ Some p → (s.claim ≡ None) ⊎ (s.claim ≡ Some p) → ((n : ℕ) → takes_page x a n ≡ (n == page_number p)) → ((n : ℕ) → gives_page x n ≡ false) → ClaimGoes s t x a
   Gives : (p : PageId) → s.claim ≡ Some p → t.claim ≡ None → ((n : ℕ) → takes_page x a n ≡ false) → gives_page x (page_number p) ≡ true → ClaimGoes s t x a
 
--- with what it knows
+-- with what it knows; and it draws a number only where all retained pages are recovered
 pub record Step (f g : Facility) (s t : RestartState) (x : RestartSent) (a : Answered) : Type 0 where
   pub listing : IsListing f s → IsListing g t
   pub claim : ClaimGoes s t x a
   pub member : t.member ≡ s.member
+  pub knows : KnowsOn s t
 
 step_as : (f g : Facility) (s t : RestartState) (x y : RestartSent) (a : Answered) → x ≡ y → Step f g s t y a → Step f g s t x a
 step_as f g s t x y a e step = subst (λ z. Step f g s t z a) (sym e) step
@@ -180,6 +183,29 @@ undoes : (h : Held) (id : ℕ) (answer : Reply) (o : Option ℕ) (counter : ℕ)
 undoes h id answer None counter e = subst (λ z. Near h.marks (settle_undo_after h id z).marks) (sym e) (draws h id (counter + 1))
 undoes h id answer (Some index) counter e = subst (λ z. Near h.marks (settle_undo_after h id z).marks) (sym e) (stales h id index)
 
+-- ---- what it knows of its pages
+entered_on : (s : RestartState) (n : Name) → Keyed s → Keyed (record_after s (reply.RetainedLock n X))
+entered_on s n has key e = let rest = entered_rest s n in entered_pages s n key.page (has key (sym rest.key ∙ e))
+
+listed_on : (s : RestartState) (o : Option (Name × Mode)) → s.is_listed ≡ false → KnowsOn s (record_after s (retained_reply o))
+listed_on s None unlisted = record { hand = λ is. is; keyed = λ is has. has; recovered = λ is has e. absurd (both_ways s.is_listed unlisted (and_parts s.is_listed (length s.pages == 0) e).0) }
+listed_on s (Some x) unlisted =
+    let rest = entered_rest s x.0 in
+    record {
+      hand = λ is key e. rest.page ∙ is key (sym rest.key ∙ e);
+      keyed = λ is has. entered_on s x.0 has;
+      recovered = λ is has e. absurd (both_ways s.is_listed unlisted (and_parts s.is_listed (length s.pages == 0) e).0);
+    }
+
+freed_on : (s : RestartState) (o : Option TurnKey) → KnowsOn s (page_freed s o)
+freed_on s None = record { hand = λ is. is; keyed = λ is has. has; recovered = λ is has e. e }
+freed_on s (Some key) = record {
+  hand = λ is k e. absurd (none-some k e);
+  keyed = λ is has k e. absurd (none-some k e);
+  recovered = λ is has e. (let both = and_parts s.is_listed (length s.pages == 0) e in
+      and_from s.is_listed (length (taken_out s.pages key) == 0) both.0 (subst (λ (z : List TurnKey). (length (taken_out z key) == 0) ≡ true) (sym (no_keys s.pages both.1)) refl));
+}
+
 -- ---- any part of an event
 module _ (named : (p : PageId) → page_at (page_number p) ≡ p) (spare : CommandsSpare) (lawful : SendsLawfully) (u v : event.World) (h k : Held) (a : Answered) (said : RestartTold) where
   abbrev Goes : RestartSent → Type 0
@@ -187,7 +213,7 @@ module _ (named : (p : PageId) → page_at (page_number p) ≡ p) (spare : Comma
 
   -- nothing of the facility changes
   quietly : (x : RestartSent) → ((n : ℕ) → takes_page x a n ≡ false) → ((n : ℕ) → gives_page x n ≡ false) → v.facility ≡ u.facility → Near h.marks k.marks → Goes x
-  quietly x takes gives same n = record { listing = goes_near u.facility v.facility h.marks k.marks h.marks.claim (spares_same u.facility v.facility h.marks.member same) n; claim = Stays n.claimed takes (λ p _. gives (page_number p)); member = n.member }
+  quietly x takes gives same n = record { listing = goes_near u.facility v.facility h.marks k.marks h.marks.claim (spares_same u.facility v.facility h.marks.member same) n; claim = Stays n.claimed takes (λ p _. gives (page_number p)); member = n.member; knows = knows_on h.marks k.marks h.marks.claim n }
 
   calling : (x : RestartSent) → ((n : ℕ) → takes_page x a n ≡ false) → ((n : ℕ) → gives_page x n ≡ false) → OnlyCalls u h x a said v k → Goes x
   calling x takes gives r = quietly x takes gives r.1 (calls_near u.drive v.drive h k x a said r.0)
@@ -215,6 +241,7 @@ module _ (named : (p : PageId) → page_at (page_number p) ≡ p) (spare : Comma
         listing = goes_near u.facility v.facility h.marks k.marks h.marks.claim (record { names = own.names other; retained = own.retained }) follows;
         claim = Stays follows.claimed (asks_nothing c asks) (λ p _. frees (page_number p));
         member = follows.member;
+        knows = knows_on h.marks k.marks h.marks.claim follows;
       }
 
   -- ---- retained records
@@ -229,6 +256,7 @@ module _ (named : (p : PageId) → page_at (page_number p) ≡ p) (spare : Comma
         listing = lists_next u.facility v.facility h.marks k.marks unlisted done.1 is;
         claim = Stays (ap (λ (z : RestartState). z.claim) is ∙ e.1) (asks_nothing (command.RetainedAt h.marks.listed) (λ n. refl)) (λ p _. refl);
         member = ap (λ (z : RestartState). z.member) is ∙ e.0;
+        knows = subst (λ (z : RestartState). KnowsOn h.marks z) (sym is) (listed_on h.marks (slice_get (retained_in u.facility.locks h.marks.member) h.marks.listed) unlisted);
       }
     where
       recorded : (s : RestartState) (o : Option (Name × Mode)) → ((record_after s (retained_reply o)).member ≡ s.member) × ((record_after s (retained_reply o)).claim ≡ s.claim)
@@ -247,6 +275,7 @@ module _ (named : (p : PageId) → page_at (page_number p) ≡ p) (spare : Comma
         claim = Stays (ap (λ (z : RestartState). z.claim) is ∙ e.1) (asks_nothing c (λ n. refl)) (λ q claimed. ne_eqb (page_number q) (page_number p)
             (λ same. never_other q p (ap (λ o. is_claimed_as o p) (sym claimed) ∙ unclaimed) (sym (named q) ∙ ap (λ z. page_at z) same ∙ named p)));
         member = ap (λ (z : RestartState). z.member) is ∙ e.0;
+        knows = subst (λ (z : RestartState). KnowsOn h.marks z) (sym is) (freed_on h.marks h.marks.hand.key);
       }
     where
       freed : (s : RestartState) (o : Option TurnKey) → ((page_freed s o).member ≡ s.member) × ((page_freed s o).claim ≡ s.claim)
@@ -263,6 +292,7 @@ module _ (named : (p : PageId) → page_at (page_number p) ≡ p) (spare : Comma
         listing = goes_listed u.facility v.facility h.marks k.marks h.marks.claim listed own.retained follows;
         claim = Stays follows.claimed (asks_nothing c (λ j. refl)) (λ p _. frees (page_number p));
         member = follows.member;
+        knows = knows_on h.marks k.marks h.marks.claim follows;
       }
 
   -- ---- the page's lock
@@ -275,6 +305,7 @@ module _ (named : (p : PageId) → page_at (page_number p) ≡ p) (spare : Comma
         listing = goes_near u.facility v.facility h.marks k.marks (granted_claim h.marks id r.answer) (record { names = own.names other; retained = own.retained }) follows;
         claim = by (is_granted r.answer) refl follows.claimed;
         member = follows.member;
+        knows = knows_on h.marks k.marks (granted_claim h.marks id r.answer) follows;
       }
     where
       by : (b : Bool) → is_granted r.answer ≡ b → k.marks.claim ≡ granted_claim h.marks id r.answer → ClaimGoes h.marks k.marks (sent.Command c) a
@@ -295,6 +326,7 @@ module _ (named : (p : PageId) → page_at (page_number p) ≡ p) (spare : Comma
         listing = goes_near u.facility v.facility h.marks k.marks None (record { names = own.names (λ n z. cc); retained = own.retained }) follows;
         claim = Gives p claimed follows.claimed (asks_nothing c (λ n. refl)) (eq-eqb (page_number p) (page_number p) refl);
         member = follows.member;
+        knows = knows_on h.marks k.marks None follows;
       }
 
   -- ---- by intent

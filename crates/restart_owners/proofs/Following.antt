@@ -1,7 +1,7 @@
 -- What the parts of a restart's events leave of its page lock, and of the retained pages that it knows.
-use Rattle.std.proofs.Common.{◌≡◌, ℕ, refl, sym, ◌∙◌, ap, subst, Bool, true, false, inl, inr, List, [], ◌∷◌, Option, Some, None, Result, Ok, Err}
-use Rattle.std.specs.Prelude.{◌==◌, ◌&&◌, if◌then◌else◌, is_none, slice_get}
-use Rattle.std.proofs.lemmas.Bool.{cases_Bool}
+use Rattle.std.proofs.Common.{◌≡◌, ℕ, suc, refl, sym, ◌∙◌, ap, subst, arith, Bool, true, false, inl, inr, List, [], ◌∷◌, Option, Some, None, Result, Ok, Err}
+use Rattle.std.specs.Prelude.{◌==◌, ◌&&◌, if◌then◌else◌, is_none, is_some, length, slice_get}
+use Rattle.std.proofs.lemmas.Bool.{and_from, and_parts, both_ways, cases_Bool, eqb-true}
 use Rattle.std.proofs.lemmas.Option.{none-some, same_Some}
 use Rattle.ds_base.specs.declared.names.PageId.{PageId}
 use Rattle.page_format.specs.Fields.{lrsn_of}
@@ -39,13 +39,17 @@ use Rattle.restart_resources.specs.Forward.{own_forward}
 use Rattle.restart_resources.specs.Held.{Held, with_marks, with_page}
 use Rattle.restart_resources.specs.Settled.{bring_after, brought_after, drawn_after_by, noted, read_after, read_in, ready_after, ready_after_at, settle_undo_after, tested_after, tested_in, undo_after_by}
 use Rattle.restart_owners.specs.Listing.{is_among}
-use Rattle.restart_owners.proofs.Keys.{among_left, among_put, among_ranked, same_page}
+use Rattle.restart_owners.proofs.Keys.{among_first, among_left, among_put, among_ranked, same_page}
 
 -- what is known of the page in hand is of that page
 abbrev pub HandIs : RestartState → Type 0
 HandIs s = (key : TurnKey) → s.hand.key ≡ Some key → s.hand.page ≡ Some key.page
 
--- it has this page lock then; what it has listed is as it was, and it knows all pages that it knew
+-- and that page is one of those that it knows
+abbrev pub Keyed : RestartState → Type 0
+Keyed s = (key : TurnKey) → s.hand.key ≡ Some key → is_among s.pages key.page ≡ true
+
+-- it has this page lock then; what it has listed is as it was, and it knows all pages that it knew, and none where it knew none
 pub record Follows (s t : RestartState) (claim : Option PageId) : Type 0 where
   pub member : t.member ≡ s.member
   pub claimed : t.claim ≡ claim
@@ -53,6 +57,8 @@ pub record Follows (s t : RestartState) (claim : Option PageId) : Type 0 where
   pub is_listed : t.is_listed ≡ s.is_listed
   pub pages : (p : PageId) → HandIs s → is_among s.pages p ≡ true → is_among t.pages p ≡ true
   pub hand : HandIs s → HandIs t
+  pub keyed : HandIs s → Keyed s → Keyed t
+  pub none : HandIs s → Keyed s → s.pages ≡ [] → t.pages ≡ []
 
 abbrev pub Near : RestartState → RestartState → Type 0
 Near s t = Follows s t s.claim
@@ -66,6 +72,8 @@ kin s t claim member claimed listed is_listed pages key page = record {
   is_listed = is_listed;
   pages = λ p _ e. ap (λ (z : List TurnKey). is_among z p) pages ∙ e;
   hand = λ is k e. page ∙ is k (sym key ∙ e);
+  keyed = λ _ has k e. ap (λ (z : List TurnKey). is_among z k.page) pages ∙ has k (sym key ∙ e);
+  none = λ _ _ e. pages ∙ e;
 }
 
 pub near : (s : RestartState) → Near s s
@@ -79,6 +87,8 @@ follows_on s t u claim a b = record {
   is_listed = b.is_listed ∙ a.is_listed;
   pages = λ p is e. b.pages p (a.hand is) (a.pages p is e);
   hand = λ is. b.hand (a.hand is);
+  keyed = λ is has. b.keyed (a.hand is) (a.keyed is has);
+  none = λ is has e. b.none (a.hand is) (a.keyed is has) (a.none is has e);
 }
 
 either : (b : Bool) (s t u : RestartState) → Near s t → Near s u → Near s (if b then t else u)
@@ -102,6 +112,8 @@ moved_near s key page rank has placed unranked = record {
     | inr other ↦ among_left (put_in s.pages (ranked_key page rank)) key p other (among_put s.pages (ranked_key page rank) p e)
   ];
   hand = λ is k e. placed ∙ ap (λ (z : TurnKey). Some z.page) (same_Some (ranked_key page rank) k e);
+  keyed = λ _ _ k e. subst (λ (z : TurnKey). is_among (taken_out (put_in s.pages (ranked_key page rank)) key) z.page ≡ true) (same_Some (ranked_key page rank) k e) (among_ranked s.pages key page rank unranked);
+  none = λ _ known e. absurd (both_ways false refl (ap (λ (z : List TurnKey). is_among z key.page) (sym e) ∙ known key has));
 }
 
 ranked_near : (s : RestartState) (key : TurnKey) (page : PageId) (rank : Rank) → s.hand.key ≡ Some key → s.hand.page ≡ Some page → Near s (hand.ranked_after s key (ranked_key page rank))
@@ -224,19 +236,32 @@ pub reads_on : (s : RestartState) (x : LogReply) → Near s (read_on_after s x)
 reads_on s x = reader s s.own.reader x
 
 -- ---- local moves
-taken_up : (s : RestartState) (o : Option TurnKey) → Near s (retained_from s o)
-taken_up s None = near s
-taken_up s (Some key) = record { member = refl; claimed = refl; listed = refl; is_listed = refl; pages = λ p _ e. e; hand = λ _ k e. ap (λ (z : TurnKey). Some z.page) (same_Some key k e) }
+first_among : (keys : List TurnKey) (key : TurnKey) → slice_get keys 0 ≡ Some key → is_among keys key.page ≡ true
+first_among [] key e = absurd (none-some key e)
+first_among (x ∷ keys) key e = subst (λ (z : TurnKey). is_among (x ∷ keys) z.page ≡ true) (same_Some x key e) (among_first x keys)
+
+taken_up : (s : RestartState) (o : Option TurnKey) → slice_get s.pages 0 ≡ o → Near s (retained_from s o)
+taken_up s None first = near s
+taken_up s (Some key) first = record {
+  member = refl;
+  claimed = refl;
+  listed = refl;
+  is_listed = refl;
+  pages = λ p _ e. e;
+  hand = λ _ k e. ap (λ (z : TurnKey). Some z.page) (same_Some key k e);
+  keyed = λ _ _ k e. subst (λ (z : TurnKey). is_among s.pages z.page ≡ true) (same_Some key k e) (first_among s.pages key first);
+  none = λ _ _ e. e;
+}
 
 undone_up : (s : RestartState) (o : Option PageId) → Near s (undone_from s o)
 undone_up s None = near s
-undone_up s (Some p) = record { member = refl; claimed = refl; listed = refl; is_listed = refl; pages = λ p _ e. e; hand = λ _ k e. absurd (none-some k e) }
+undone_up s (Some p) = record { member = refl; claimed = refl; listed = refl; is_listed = refl; pages = λ p _ e. e; hand = λ _ k e. absurd (none-some k e); keyed = λ _ _ k e. absurd (none-some k e); none = λ _ _ e. e }
 
 put_aside : (s : RestartState) → Near s (with_hand s no_hand)
-put_aside s = record { member = refl; claimed = refl; listed = refl; is_listed = refl; pages = λ p _ e. e; hand = λ _ k e. absurd (none-some k e) }
+put_aside s = record { member = refl; claimed = refl; listed = refl; is_listed = refl; pages = λ p _ e. e; hand = λ _ k e. absurd (none-some k e); keyed = λ _ _ k e. absurd (none-some k e); none = λ _ _ e. e }
 
 one_near : (x : Local) (s : RestartState) → Near s (moved x s)
-one_near TakeUpRetained s = either (is_none s.hand.page) s (retained_from s (slice_get s.pages 0)) s (taken_up s (slice_get s.pages 0)) (near s)
+one_near TakeUpRetained s = either (is_none s.hand.page) s (retained_from s (slice_get s.pages 0)) s (taken_up s (slice_get s.pages 0) refl) (near s)
 one_near (TakeUpUndone id) s = either (is_none s.hand.page && is_recovered s) s (undone_from s (page_undone s.trans id)) s (undone_up s (page_undone s.trans id)) (near s)
 one_near PutDown s = either (may_put_down s.hand s.claim) s (with_hand s no_hand) s (put_aside s) (near s)
 one_near (Close id) s = by (may_close s id)
@@ -252,3 +277,39 @@ all_near (x ∷ xs) s = follows_on s (moved x s) (all_moved xs (moved x s)) s.cl
 pub reaches : (s t : RestartState) → Reaches s t → Near s t
 unfolding Reaches
 reaches s t r = subst (λ (z : RestartState). Near s z) (sym r.1) (all_near r.0 s)
+
+-- ---- what it knows of the page in hand goes on, and that all retained pages are recovered
+pub no_keys : (keys : List TurnKey) → (length keys == 0) ≡ true → keys ≡ []
+no_keys [] e = refl
+no_keys (x ∷ keys) e = absurd (let z : suc (length keys) ≡ 0 = eqb-true (suc (length keys)) 0 e in omega (arith, z))
+
+pub record KnowsOn (s t : RestartState) : Type 0 where
+  pub hand : HandIs s → HandIs t
+  pub keyed : HandIs s → Keyed s → Keyed t
+  pub recovered : HandIs s → Keyed s → is_recovered s ≡ true → is_recovered t ≡ true
+
+pub knows_on : (s t : RestartState) (claim : Option PageId) → Follows s t claim → KnowsOn s t
+knows_on s t claim f = record {
+  hand = f.hand;
+  keyed = f.keyed;
+  recovered = λ is has e. (let both = and_parts s.is_listed (length s.pages == 0) e in
+      and_from t.is_listed (length t.pages == 0) (f.is_listed ∙ both.0) (ap (λ (z : List TurnKey). length z == 0) (f.none is has (no_keys s.pages both.1))));
+}
+
+pub knows_both : (s t u : RestartState) → KnowsOn s t → KnowsOn t u → KnowsOn s u
+knows_both s t u a b = record {
+  hand = λ is. b.hand (a.hand is);
+  keyed = λ is has. b.keyed (a.hand is) (a.keyed is has);
+  recovered = λ is has e. b.recovered (a.hand is) (a.keyed is has) (a.recovered is has e);
+}
+
+-- while a retained page is in hand, not all are recovered
+pub keyed_unrecovered : (s : RestartState) → Keyed s → is_some s.hand.key ≡ true → is_recovered s ≡ false
+keyed_unrecovered s has some = elim (cases_Bool (is_recovered s)) [
+  | inl all ↦ absurd (none (no_keys s.pages (and_parts s.is_listed (length s.pages == 0) all).1) s.hand.key refl some)
+  | inr e ↦ e
+]
+  where
+    none : s.pages ≡ [] → (o : Option TurnKey) → s.hand.key ≡ o → is_some o ≡ true → ⊥
+    none e None is there = both_ways false refl there
+    none e (Some key) is there = both_ways false refl (ap (λ (z : List TurnKey). is_among z key.page) (sym e) ∙ has key is)

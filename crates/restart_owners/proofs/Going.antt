@@ -47,7 +47,7 @@ use Rattle.restart_owners.specs.Listing.{ListingGoes, RestartsRetain, purges_by}
 use Rattle.restart_owners.specs.Owners.{OwnersStand, OwnsRestarting}
 use Rattle.restart_owners.specs.Stages.{HasLeft, InBoth, InPages, StageGoes, StageLeads}
 use Rattle.restart_owners.proofs.Courses.{ClaimGoes, Gives, Stays, Step, Takes, by_intent}
-use Rattle.restart_owners.proofs.Following.{reaches}
+use Rattle.restart_owners.proofs.Following.{knows_both, knows_on, reaches}
 use Rattle.restart_owners.proofs.Listing.{goes_near, spares_same}
 use Rattle.restart_owners.proofs.Supplying.{claimed_there, still_sound}
 
@@ -66,6 +66,7 @@ stepped named spare lawful u v h k x a happens =
       listing = λ l. goes_near v.facility v.facility mid.marks k.marks mid.marks.claim (spares_same v.facility v.facility mid.marks.member refl) on (step.listing l);
       claim = claim_on h.marks mid.marks k.marks x a on.claimed step.claim;
       member = on.member ∙ step.member;
+      knows = knows_both h.marks mid.marks k.marks step.knows (knows_on mid.marks k.marks mid.marks.claim on);
     }
 
 pub listing_goes : ((p : PageId) → page_at (page_number p) ≡ p) → CommandsSpare → SendsLawfully → ListingGoes
@@ -163,6 +164,8 @@ staged w v g content forced h k s a e = record {
   others = e.leads.others;
   owns = e.owns;
   kept = e.leads.kept;
+  casts = e.leads.casts;
+  level = e.leads.level;
 }
 
 -- ---- where page locks and claims go

@@ -113,6 +113,9 @@ among_put keys k p e = among_has (put_in keys k) p ∙ put_keeps (of_page p) key
 pub among_new : (keys : List TurnKey) (k : TurnKey) → is_among (put_in keys k) k.page ≡ true
 among_new keys k = among_has (put_in keys k) k.page ∙ put_has (of_page k.page) keys k (λ x same e. ap (λ z. is_same z k.page) (sym same.page) ∙ e) (is_itself k.page)
 
+pub among_first : (key : TurnKey) (keys : List TurnKey) → is_among (key ∷ keys) key.page ≡ true
+among_first key keys = or_left (is_same key.page key.page) (is_among keys key.page) (is_itself key.page)
+
 pub among_left : (keys : List TurnKey) (k : TurnKey) (p : PageId) → is_same k.page p ≡ false → is_among keys p ≡ true → is_among (taken_out keys k) p ≡ true
 among_left keys k p other e = among_has (taken_out keys k) p ∙ take_keeps (of_page p) keys k (λ x same. ap (λ z. is_same z p) (sym same.page) ∙ other) (sym (among_has keys p) ∙ e)
 

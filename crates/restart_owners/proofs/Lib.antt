@@ -7,3 +7,4 @@ pub mod Supplying
 pub mod Going
 pub mod Ending
 pub mod Stages
+pub mod Undrawn

@@ -94,7 +94,7 @@ goes_listed f g s t claim listed retained near l = record {
 }
 
 -- ---- one more record is known, or there are no more
-entered_pages : (s : RestartState) (n : Name) (p : PageId) → is_among s.pages p ≡ true → is_among (entered_name s n).pages p ≡ true
+pub entered_pages : (s : RestartState) (n : Name) (p : PageId) → is_among s.pages p ≡ true → is_among (entered_name s n).pages p ≡ true
 entered_pages s (name.Space t) p e = e
 entered_pages s (name.Row t k) p e = e
 entered_pages s (name.Page q) p e = among_put s.pages (key_by_name q) p e

@@ -1,5 +1,5 @@
 -- Any event of a restart, whether it reads its log yet or has read it.
-use Rattle.std.proofs.Common.{◌≡◌, ◌≢◌, ℕ, refl, sym, subst, inl, inr, List, Ok, Err}
+use Rattle.std.proofs.Common.{◌≡◌, ◌≢◌, ℕ, refl, sym, subst, ◌∙◌, inl, inr, List, Ok, Err}
 use Rattle.cache_structure.specs.Sound.{IsSound}
 use Rattle.facility.specs.States.{Held as Facility}
 use Rattle.member_intents.specs.declared.outcome.Answered.{Answered}
@@ -20,7 +20,7 @@ use Rattle.page_protocol.specs.Moves.{World}
 use Rattle.page_protocol.specs.Always.{AlwaysGood}
 use Rattle.page_world.specs.Holdings.{Holdings, KeepsPages, with_facility}
 use Rattle.page_world.specs.Numbers.{set_of}
-use Rattle.page_restarts.specs.Beside.{Shows, as_restarting}
+use Rattle.page_restarts.specs.Beside.{GroupGoes, LeavesMember, OwnRestarts, Shows, as_restarting}
 use Rattle.page_restarts.specs.Locks.{StayGoes}
 use Rattle.page_restarts.specs.Stands.{Begins, Goes as PageGoes, SameHand}
 use Rattle.page_restarts.specs.Events.{IsOver, Owns}
@@ -30,7 +30,7 @@ use Rattle.page_restarts.proofs.Needs.{err_ok}
 use Rattle.restart_owners.specs.Ends.{EndsGo}
 use Rattle.restart_owners.specs.Events.{BothRestart, EventsGo}
 use Rattle.restart_owners.specs.Owners.{RestartsBegin}
-use Rattle.restart_owners.specs.Stages.{InBoth, InPages, StageBegins, StageEnds, StageGoes, StageLeads, StageStays, StageTells, StagesGo}
+use Rattle.restart_owners.specs.Stages.{InBoth, InPages, StageBegins, StageCasts, StageEnds, StageGoes, StageLeads, StageStays, StageTells, StagesGo}
 use Rattle.restart_owners.proofs.Going.{Known, stage_goes, staged}
 
 pub record Facts : Type 0 where
@@ -66,6 +66,8 @@ read_on w v g content forced h k s a e o = record {
   others = e.others;
   owns = subst (λ z. Owns g.owner z h.marks.member s a) (sym e.owner) o;
   kept = λ n i l. refl;
+  casts = e.casts;
+  level = λ _ _. sym e.level;
 }
 
 -- ---- at either stage
@@ -140,6 +142,32 @@ stage_stays good stay w u v g content forced h (inr r) keeps drive =
       });
       others = others_facility g v.facility forced h.marks.member (standings_of g.facility v.facility now);
     }
+
+-- ---- a castout of its own member
+casts_begin : OwnRestarts → (w : World) (g left : Holdings) (content : ℕ → ℕ → List ℕ) (forced : ℕ → ℕ) (h : Held) → Begins w g content forced h → (goes : GroupGoes w g left content forced h.marks.member) → LeavesMember g left h.marks.member → Begins goes.world left content forced h
+casts_begin law w g left content forced h b goes own = record {
+  good = goes.stands.good;
+  tied = goes.stands.tied;
+  numbered = goes.stands.numbered;
+  sound = goes.stands.sound;
+  restarts = law g left forced h goes.others own b.restarts;
+}
+
+pub stage_casts : OwnRestarts → StageCasts
+stage_casts law w u v g left content forced h (inl r) goes own facility drive = inl (record {
+  begins = casts_begin law w g left content forced h r.begins goes own;
+  facility = facility;
+  drive = drive;
+  level = own.written ∙ r.level ∙ sym own.stable;
+  unread = r.unread;
+  rest = r.rest;
+})
+stage_casts law w u v g left content forced h (inr r) goes own facility drive = inr (record {
+  begins = casts_begin law w g left content forced h r.begins goes own;
+  facility = facility;
+  drive = drive;
+  read = r.read;
+})
 
 -- ---- the end
 not_up : (m : ℕ) (own : OwnState) (s : RestartSent) → need_of (reading m own) intent.Up ≡ Ok s → ⊥

@@ -57,7 +57,7 @@ IsTold w g content h e _ answer = Unit {0}
 
 pub record LogTells (w : World) (u v : Outside) (g : Holdings) (content : ℕ → ℕ → List ℕ) (h k : Held) (s : RestartSent) (a : Answered) (happens : Happens (as_restarting u) h s a (as_restarting v) k) : Type 0 where
   pub told : (c : Command) → s ≡ sent.Command c → (r : RunsCommand u.facility h happens.intent c a happens.said v.facility happens.after) → IsTold w g content h r.after happens.intent r.answer
-  pub quiet : IsQuiet g h happens.after a
+  pub quiet : IsQuiet g h happens.after
   -- the disk does what it is asked
   pub works : a ≢ answered.Failed
 

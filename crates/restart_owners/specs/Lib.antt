@@ -3,3 +3,4 @@ pub mod Listing
 pub mod Events
 pub mod Ends
 pub mod Stages
+pub mod Undrawn

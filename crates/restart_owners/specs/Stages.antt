@@ -5,6 +5,7 @@ use Rattle.member_intents.specs.declared.outcome.Answered.TheVariants as answere
 use Rattle.member_resources.specs.Events.{World as Outside}
 use Rattle.restart_marks.specs.declared.intent.RestartIntent.TheVariants as intent
 use Rattle.restart_marks.specs.declared.intent.RestartSent.{RestartSent}
+use Rattle.restart_marks.specs.Moves.{is_recovered}
 use Rattle.restart_marks.specs.State.{RestartState}
 use Rattle.restart_records.specs.Trans.{page_undone}
 use Rattle.restart_resources.specs.Events.{Happens}
@@ -20,7 +21,7 @@ use Rattle.page_protocol.specs.Page.{put}
 use Rattle.page_protocol.specs.Moves.{World, Move, Run}
 use Rattle.page_world.specs.Holdings.{Holdings, KeepsPages, with_facility}
 use Rattle.page_world.specs.Numbers.{set_of}
-use Rattle.page_restarts.specs.Beside.{Beside, SameOthers, Shows, as_restarting}
+use Rattle.page_restarts.specs.Beside.{Beside, GroupGoes, LeavesMember, SameOthers, Shows, as_restarting}
 use Rattle.page_restarts.specs.Events.{IsOver, Owns}
 use Rattle.page_restarts.specs.Reading.{Group, IsLeft, IsReading, LogIsWhole}
 use Rattle.restart_owners.specs.Events.{LogTells}
@@ -65,7 +66,8 @@ pub record StageTells (w : World) (u v : Outside) (g : Holdings) (content : ℕ 
 abbrev pub HasLeft : OwnClaims → RestartState → Type 0
 HasLeft own s = ((o c : ℕ) → own o c ≡ None) ⊎ ((s.claim ≡ None) × ((id : ℕ) → page_undone s.trans id ≡ None))
 
--- with the page locks that it had and has not given up, and the one that it was granted
+-- with the page locks that it had and has not given up, and the one that it was granted; it casts nothing out, and draws no number before all retained pages are
+-- recovered
 pub record StageLeads (w : World) (v : Outside) (g : Holdings) (content : ℕ → ℕ → List ℕ) (forced : ℕ → ℕ) (h k : Held) (s : RestartSent) (a : Answered) : Type 0 where
   pub moves : List Move
   pub world : World
@@ -78,6 +80,8 @@ pub record StageLeads (w : World) (v : Outside) (g : Holdings) (content : ℕ �
   pub others : SameOthers g left forced force h.marks.member
   pub owns : Owns g.owner left.owner h.marks.member s a
   pub kept : (n i : ℕ) → i ≤ (w.pages n).last → versions n i ≡ content n i
+  pub casts : left.casts ≡ g.casts
+  pub level : is_recovered h.marks ≡ false → g.stable h.marks.member ≡ g.written h.marks.member → left.stable h.marks.member ≡ left.written h.marks.member
 
 pub record StageGoes (w : World) (l : LockWorld) (u v : Outside) (g : Holdings) (content : ℕ → ℕ → List ℕ) (forced : ℕ → ℕ) (left : Claims) (own : OwnClaims) (h k : Held) (s : RestartSent) (a : Answered) : Type 0 where
   pub pages : StageLeads w v g content forced h k s a
@@ -101,6 +105,11 @@ pub record PagesStay (w : World) (v : Outside) (g : Holdings) (content : ℕ →
 
 abbrev pub StageStays : Type 0
 StageStays = (w : World) (u v : Outside) (g : Holdings) (content : ℕ → ℕ → List ℕ) (forced : ℕ → ℕ) (h : Held) → InPages w u g content forced h → KeepsPages u.facility v.facility → v.drive ≡ u.drive → PagesStay w v g content forced h
+
+-- and so does a castout of its own member, which leaves all else that the group holds of that
+abbrev pub StageCasts : Type 0
+StageCasts = (w : World) (u v : Outside) (g left : Holdings) (content : ℕ → ℕ → List ℕ) (forced : ℕ → ℕ) (h : Held)
+    → InPages w u g content forced h → (goes : GroupGoes w g left content forced h.marks.member) → LeavesMember g left h.marks.member → left.facility ≡ v.facility → Shows v.drive left.disk → InPages goes.world v left content forced h
 
 -- ---- its end is one move of pages. It has read its log then, and its member owns no page
 abbrev pub StageEnds : Type 0

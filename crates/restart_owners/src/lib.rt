@@ -9,13 +9,16 @@ ghost use Rattle.restart_owners.specs.Ends.{EndsFree, EndsGo};
 ghost use Rattle.restart_owners.specs.Events.{BothSupply, EventsGo};
 ghost use Rattle.restart_owners.specs.Listing.{ListingBegins, ListingGoes, ListingStays, RestartsRetain};
 ghost use Rattle.restart_owners.specs.Owners.{OthersOwn, OwnersFail, RestartsBegin};
-ghost use Rattle.restart_owners.specs.Stages.{StageBegins, StageEnds, StageStays, StagesGo};
+ghost use Rattle.restart_owners.specs.Stages.{StageBegins, StageCasts, StageEnds, StageStays, StagesGo};
+ghost use Rattle.restart_owners.specs.Undrawn.{UndrawnBegins, UndrawnCasts, UndrawnGoes, UndrawnStays, UndrawnTells};
 
 use lock_protocol::{claims_give, keeps_sound, moves_leave_others};
 use lock_restarts::{restarts_go, sends_lawfully};
 use lock_world::names_have_numbers;
 use page_protocol::coherent_pages;
-use page_restarts::{ends_go as pages_end, events_go as pages_go, owners_go, readings_go};
+use page_restarts::{
+    ends_go as pages_end, events_go as pages_go, own_still_restarts, owners_go, readings_go,
+};
 use page_world::pages_have_numbers;
 use retained_pages::{commands_retain, retained_pages_keep_out};
 
@@ -84,11 +87,13 @@ pub fn ends_go()
 }
 
 /// A restart begins beside both worlds as soon as its failed member restarts. Any event of it, whether it reads its log yet or has read it, keeps it beside
-/// both, but for its end, which is one move of pages. Any other event that changes nothing of the pages leaves it beside them.
+/// both, but for its end, which is one move of pages. Any other event that changes nothing of the pages leaves it beside them, and so does a castout of its
+/// own member.
 pub fn stages_go()
     ensures begin { StageBegins }
     ensures event { StagesGo }
     ensures still { StageStays }
+    ensures casts { StageCasts }
     ensures over { StageEnds }
 {
     pages_have_numbers();
@@ -100,8 +105,23 @@ pub fn stages_go()
     coherent_pages();
     owners_go();
     readings_go();
+    own_still_restarts();
     failures_retain();
     restarts_list();
     events_go();
     ends_go();
+}
+
+/// A restart draws no number before all retained pages are recovered, from its begin on, through all its events, those of others, and castouts of its own
+/// member. So where it puts a changed page aside, all records that its member has drawn are on disk.
+pub fn restarts_stay_undrawn()
+    ensures begin { UndrawnBegins }
+    ensures event { UndrawnGoes }
+    ensures other { UndrawnStays }
+    ensures casts { UndrawnCasts }
+    ensures quiet { UndrawnTells }
+{
+    pages_have_numbers();
+    sends_lawfully();
+    commands_retain();
 }

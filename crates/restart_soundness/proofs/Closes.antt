@@ -16,7 +16,7 @@ use Rattle.ds_model.specs.declared.log.Body.TheVariants as body
 use Rattle.log_record.specs.declared.log.Log.{Log}
 use Rattle.log_rows.specs.Rows.{is_change_of, has_changed, is_closed, BothTell}
 use Rattle.log_reader.specs.Keeping.{AreWhole}
-use Rattle.log_appends.specs.Appends.{LastSpell}
+use Rattle.log_appends.specs.Appends.{AreLastFrom, LastSpell}
 use Rattle.log_appends.specs.Rests.{LastAreAllowed}
 use Rattle.log_trans.specs.declared.course.Course.{Course}
 use Rattle.log_trans.specs.Courses.{new_course, is_next, undone_one, after_body}
@@ -204,24 +204,35 @@ closed_stays front back t s f last closed =
 is_log : (bytes : List ℕ) (rs : List LogRecord) → bytes ≡ log_bytes rs → AllByRecursion IsAllowed rs → IsLog bytes rs
 is_log bytes rs e a = record { tail = []; whole = e ∙ sym (append-nil (log_bytes rs)); allowed = a; torn = inl refl }
 
+-- behind a front of them none changes a row behind its Commit, as it is of all
+back_last : (front back : List LogRecord) → commits_last (front ++ back) ≡ true → commits_last back ≡ true
+back_last [] back h = h
+back_last (r ∷ rs) back h = back_last rs back (and_parts (not (is_commit r.body && changes_for r.tran (rs ++ back))) (commits_last (rs ++ back)) h).1
+
 -- what is closed among all its records
 closes_all : LogLaws → (bytes : List ℕ) (rs : List LogRecord) → bytes ≡ log_bytes rs → AllByRecursion IsAllowed rs → EachFollows [] rs → commits_last rs ≡ true → ((t : ℕ) (s : Spot) → t ≢ 0 → has_changed rs t s ≡ true → is_closed rs t ≡ true) → ClosesAll bytes
-closes_all l bytes rs spelled allowed follow last closed =
-    let whole : AreWhole bytes = record { records = rs; spelled = spelled; allowed = allowed } in
-    record {
-      whole = whole;
-      closed = λ start back from t s numbered changed.
-          let front = from.whole.records in
-          let split : bytes ≡ log_bytes (front ++ back) = l.spell bytes start back whole from ∙ ap (λ (b : List ℕ). b ++ log_bytes back) from.whole.spelled ∙ sym (flat_map-append record_bytes front back) in
-          let are : rs ≡ front ++ back =
-          same_read l.reads bytes rs (front ++ back) (is_log bytes rs spelled allowed) (is_log bytes (front ++ back) split (all_join IsAllowed front back from.whole.allowed (l.allowed bytes start back whole from))) in
-          let there : has_changed (front ++ back) t s ≡ true = l.both.changed front back t s ∙ or_right (has_changed front t s) (has_changed back t s) changed in
-          let done : (is_closed front t || is_closed back t) ≡ true = sym (l.both.closed front back t) ∙ subst (λ (xs : List LogRecord). is_closed xs t ≡ true) are (closed t s numbered (subst (λ (xs : List LogRecord). has_changed xs t s ≡ true) (sym are) there)) in
-          elim (or_cases (is_closed front t) (is_closed back t) done) as (λ _. is_closed back t ≡ true) [
-            | inl e ↦ absurd (both_ways (has_changed back t s) (closed_stays front back t s (subst (EachFollows []) are follow) (subst (λ (xs : List LogRecord). commits_last xs ≡ true) are last) e) changed)
-            | inr e ↦ e
-          ];
-    }
+closes_all l bytes rs spelled allowed follow last closed = record {
+  whole = whole;
+  closed = λ start back from t s numbered changed.
+      let front = from.whole.records in
+      let are : rs ≡ front ++ back = are_parts start back from in
+      let there : has_changed (front ++ back) t s ≡ true = l.both.changed front back t s ∙ or_right (has_changed front t s) (has_changed back t s) changed in
+      let done : (is_closed front t || is_closed back t) ≡ true = sym (l.both.closed front back t) ∙ subst (λ (xs : List LogRecord). is_closed xs t ≡ true) are (closed t s numbered (subst (λ (xs : List LogRecord). has_changed xs t s ≡ true) (sym are) there)) in
+      elim (or_cases (is_closed front t) (is_closed back t) done) as (λ _. is_closed back t ≡ true) [
+        | inl e ↦ absurd (both_ways (has_changed back t s) (closed_stays front back t s (subst (EachFollows []) are follow) (subst (λ (xs : List LogRecord). commits_last xs ≡ true) are last) e) changed)
+        | inr e ↦ e
+      ];
+  commits = λ start back from. back_last from.whole.records back (subst (λ (xs : List LogRecord). commits_last xs ≡ true) (are_parts start back from) last);
+}
+  where
+    whole : AreWhole bytes
+    whole = record { records = rs; spelled = spelled; allowed = allowed }
+
+    are_parts : (start : ℕ) (back : List LogRecord) → (from : AreLastFrom bytes start back) → rs ≡ from.whole.records ++ back
+    are_parts start back from =
+        let front = from.whole.records in
+        let split : bytes ≡ log_bytes (front ++ back) = l.spell bytes start back whole from ∙ ap (λ (b : List ℕ). b ++ log_bytes back) from.whole.spelled ∙ sym (flat_map-append record_bytes front back) in
+        same_read l.reads bytes rs (front ++ back) (is_log bytes rs spelled allowed) (is_log bytes (front ++ back) split (all_join IsAllowed front back from.whole.allowed (l.allowed bytes start back whole from)))
 
 -- ---- the log of a member
 

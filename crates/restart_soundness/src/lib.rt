@@ -81,9 +81,9 @@ pub fn group_restart_laws<D: Disk>()
 }
 
 /// On a disk on which a group restart was done each log is whole records, and wherever it may be read from, from its first byte or
-/// from a Checkpoint that names its own place, each transaction that has changed a row there has a Commit or an Ended there. So it is
-/// where no log of the disk that was restarted could be read from behind a transaction that was rolled back and had no Ended, and no
-/// transaction changed a row behind its Commit.
+/// from a Checkpoint that names its own place, each transaction that has changed a row there has a Commit or an Ended there, and none
+/// changes a row behind its Commit. So it is where no log of the disk that was restarted could be read from behind a transaction that
+/// was rolled back and had no Ended, and no transaction changed a row behind its Commit.
 pub fn rest_laws()
     ensures { RestsClose }
 {

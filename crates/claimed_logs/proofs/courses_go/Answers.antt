@@ -1,5 +1,6 @@
 use Rattle.claimed_logs.proofs.courses_go.Goals as goal
 use Rattle.claimed_logs.proofs.Alike.{Facts as AlikeFacts}
+use Rattle.claimed_logs.proofs.Below.{course_below}
 use Rattle.claimed_logs.proofs.Courses.{Facts, course_ends, course_hands, course_steps}
 use Rattle.claimed_logs.proofs.Ends.{ends_tell}
 use Rattle.claimed_logs.proofs.Own.{resting_stays}
@@ -26,6 +27,17 @@ returns c =
       steps = course_steps facts;
       hands = course_hands facts;
       ends = course_ends facts;
+      below = course_below (record {
+        last = c.appends_tell.ensures.last;
+        with_rest = c.rests_tell.ensures.with_rest;
+        without = c.rests_tell.ensures.without;
+        nothing = c.rests_tell.ensures.none;
+        closes = c.restarts_close_truly.ensures;
+        rests = c.restarts_rest.ensures.event;
+        lists = c.lists_go.ensures;
+        reads = c.reads_true.ensures.event;
+        opens = c.closings_tell.ensures.below;
+      });
       tell = ends_tell (record { both = c.both_tell.ensures; lawful = c.sends_lawfully.ensures });
       rests = resting_stays (record {
         event = c.numbers_stay.ensures.event;

@@ -13,7 +13,7 @@ returns c =
         whole = c.appends_tell.ensures.whole;
         leave = c.rests_tell.ensures.leave;
       };
-      courses = record { steps = c.courses_go.ensures.steps; hands = c.courses_go.ensures.hands; ends = c.courses_go.ensures.ends };
+      courses = record { steps = c.courses_go.ensures.steps; hands = c.courses_go.ensures.hands; ends = c.courses_go.ensures.ends; below = c.courses_go.ensures.below };
       locked = c.logs_stay_locked.ensures.local;
       tell = c.courses_go.ensures.tell;
       lists = c.lists_go.ensures;
@@ -27,6 +27,7 @@ returns c =
       follow = c.restarts_follow.ensures.follows;
       standings = c.restarts_follow.ensures.standings;
       commands = c.commands_count.ensures;
+      reaches = c.forward_stays.ensures.local;
     } in
     record {
       up = up_events facts;

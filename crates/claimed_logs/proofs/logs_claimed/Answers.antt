@@ -1,6 +1,6 @@
 use Rattle.claimed_logs.proofs.logs_claimed.Goals as goal
 use Rattle.claimed_logs.proofs.Alike.{Facts}
-use Rattle.claimed_logs.proofs.Logs.{fresh_logged, group_fails_logged, logs_know, one_logged}
+use Rattle.claimed_logs.proofs.Logs.{closes_leaves, fresh_logged, group_fails_logged, logs_know, logs_leave, one_logged}
 
 pub returns : goal.returns
 returns c =
@@ -23,5 +23,7 @@ returns c =
       });
       know = logs_know;
       fails = group_fails_logged;
+      leave = logs_leave c.rests_tell.ensures.none;
+      closing = closes_leaves c.rests_tell.ensures.none;
       one = one_logged (record { left = c.claims_stay.ensures.other; more = c.numbers_stay.ensures.more });
     }

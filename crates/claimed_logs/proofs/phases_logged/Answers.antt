@@ -11,4 +11,5 @@ returns c = phases_logged (record {
   more = c.numbers_stay.ensures.more;
   closes = c.restarts_close.ensures.begin;
   short = c.needs_are_few.ensures.short;
+  few = c.closings_tell.ensures.few;
 })

@@ -1,6 +1,7 @@
 use Rattle.restart_closing.proofs.closings_tell.Goals as goal
+use Rattle.restart_closing.proofs.Few.{logs_leave_below, logs_leave_few}
 use Rattle.restart_closing.proofs.Logs.{Facts}
-use Rattle.restart_closing.proofs.Telling.{hands_all, over_closed, rests_open, stops_open}
+use Rattle.restart_closing.proofs.Telling.{hands_all, none_left, over_closed, rests_open, stops_open}
 
 pub returns : goal.returns
 returns c =
@@ -14,4 +15,4 @@ returns c =
       opens = c.open_trans_tell.ensures;
       opened = c.opens_are_allowed.ensures;
     } in
-    record { over = over_closed; handed = hands_all c.both_tell.ensures; stops = stops_open facts; rests = rests_open facts }
+    record { over = over_closed; handed = hands_all c.both_tell.ensures; stops = stops_open facts; rests = rests_open facts; left = none_left; few = logs_leave_few; below = logs_leave_below }

@@ -1,0 +1,3 @@
+pub mod Closed
+pub mod Anew
+pub mod Others
