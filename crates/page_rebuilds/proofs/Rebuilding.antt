@@ -173,6 +173,7 @@ module _ (facts : Facts) (w : World) (u v : Outside) (g : Holdings) (content : �
         };
         facility = refl;
         drive = drive;
+        owner = refl;
       }
 
   keeps_same : v.facility ≡ u.facility → KeepsPages g.facility v.facility
@@ -203,6 +204,7 @@ module _ (facts : Facts) (w : World) (u v : Outside) (g : Holdings) (content : �
         };
         facility = there ∙ sym same;
         drive = drive;
+        owner = refl;
       }
 
   -- ---- a page is written
@@ -229,6 +231,7 @@ module _ (facts : Facts) (w : World) (u v : Outside) (g : Holdings) (content : �
         };
         facility = there ∙ sym same;
         drive = subst (λ z. Shows v.drive (put g.disk n z)) led.same (facts.show u.drive v.drive g.disk shows x page bytes told (ap (λ (z : Contents). z.pages) is));
+        owner = refl;
       }
 
   -- ---- the cache is rebuilt
@@ -251,6 +254,7 @@ module _ (facts : Facts) (w : World) (u v : Outside) (g : Holdings) (content : �
         };
         facility = refl;
         drive = drive;
+        owner = refl;
       }
     where
       numbered_by : (z : World) (x : Bool) → Run set_of w (if x then Rebuilt ∷ [] else []) z → AreNumbered z content forced

@@ -40,6 +40,7 @@ pub record RebuildGoes (w : World) (v : Outside) (g : Holdings) (content : ℕ �
   pub goes : GroupGoes w g left content forced 0
   pub facility : left.facility ≡ v.facility
   pub drive : Shows v.drive left.disk
+  pub owner : left.owner ≡ g.owner
 
 -- any event of a rebuild, whatever was wanted and whatever the answer
 abbrev pub EventsGo : Type 0
