@@ -30,9 +30,13 @@ AllKnowDisk {P} before now parts = All (λ (part : MemberPart P). Becomes before
 
 -- ---- the group restart that opens a disk
 
--- a group restart was run over the disk, and was done
+-- a group restart was run over the disk, and was done, with this counter
+abbrev pub IsOpenedTo : {D : Type 0} → (D → Bool) → (D → Option Contents) → D → ℕ → D → Type 0
+IsOpenedTo {D} alive contents old counter new = RestartsDisk (drive_of alive contents old) (Ok (state.Done counter)) (drive_of alive contents new)
+
+-- with some counter
 abbrev pub IsOpened : {D : Type 0} → (D → Bool) → (D → Option Contents) → D → D → Type 0
-IsOpened {D} alive contents old new = (counter : ℕ) × RestartsDisk (drive_of alive contents old) (Ok (state.Done counter)) (drive_of alive contents new)
+IsOpened {D} alive contents old new = (counter : ℕ) × IsOpenedTo alive contents old counter new
 
 -- it was stopped neither by damage nor by a call that failed
 abbrev pub IsUnhurt : Result State NoMemory → Type 0

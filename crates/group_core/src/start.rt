@@ -7,7 +7,7 @@ ghost use Rattle.disk_restart.specs.Runs.{RestartsDisk};
 ghost use Rattle.group_core.specs.declared.fault.RunFault.TheVariants as fault;
 ghost use Rattle.group_crew.specs.Ends.{AreEndsOf};
 ghost use Rattle.group_crew.specs.Failing.{drive_of};
-ghost use Rattle.group_core.specs.Starts.{AllKnowDisk, EndsKnown, IsFresh, IsOpened, IsUnopened, StopsBy};
+ghost use Rattle.group_core.specs.Starts.{AllKnowDisk, EndsKnown, IsFresh, IsOpened, IsOpenedTo, IsUnopened, StopsBy};
 ghost use Rattle.group_restart.specs.declared.calls.State.TheVariants as state;
 
 use crate::fault::{RunFault, StartFault};
@@ -84,6 +84,7 @@ impl<D: Disk, C: CacheFace + Drop, P: Policy + Drop> Group<D, C, P> {
         ensures disk { IfOk result (λ group. D.faults disk ≤ D.faults group.disk) }
         ensures keeps { IfOk result (λ group. Becomes (D.contents disk) (D.contents group.disk) KeepsRecords) }
         ensures opens { IfOk result (λ group. IsOpened D.alive D.contents disk group.disk) }
+        ensures counted { IfOk result (λ group. IsOpenedTo D.alive D.contents disk group.crew.facility.counter group.disk) }
         ensures known { IfOk result (λ group. AllKnowDisk (D.contents disk) (D.contents group.disk) group.crew.parts.items) }
         ensures fault { IfOk result (λ group. group.fault ≡ None) }
         ensures faults { IfOk result (λ group. group.faults.items ≡ []) }
