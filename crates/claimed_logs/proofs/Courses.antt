@@ -135,7 +135,7 @@ adopted_if s kept adopted true e = sym (ap (λ (z : Adopted). z.trans) (same_som
 adopted_if s kept adopted false e = absurd (never_some adopted e)
 
 -- all that it has left open
-adopted_are : (s : RestartState) (o : Option KeptBy) (adopted : Adopted) → adopted_by s o ≡ Some adopted → adopted.trans ≡ opened_among s.trans.list
+pub adopted_are : (s : RestartState) (o : Option KeptBy) (adopted : Adopted) → adopted_by s o ≡ Some adopted → adopted.trans ≡ opened_among s.trans.list
 adopted_are s None adopted e = absurd (never_some adopted e)
 adopted_are s (Some kept) adopted e = adopted_if s kept adopted (may_adopt s) e
 

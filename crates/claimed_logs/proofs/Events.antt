@@ -10,7 +10,7 @@ use Rattle.facility.specs.States.{Held as Facility}
 use Rattle.list_structure.specs.declared.standing.MemberStatus.{MemberStatus}
 use Rattle.list_structure.specs.declared.standing.MemberStatus.TheVariants.{Down, Restarting, Up}
 use Rattle.list_structure.specs.Standings.{is_live, status_of}
-use Rattle.log_numbers.specs.Numbers.{CommandsCount, ForwardReach, forward_in}
+use Rattle.log_numbers.specs.Numbers.{AreCounted, CommandsCount, CountedAdopt, CountedMore, CountedReach, ForwardReach, forward_in}
 use Rattle.member_intents.specs.declared.outcome.Answered.{Answered}
 use Rattle.member_intents.specs.declared.outcome.Answered.TheVariants as answered
 use Rattle.member_resources.specs.Events.{Drive, World as Resources}
@@ -54,6 +54,7 @@ use Rattle.claimed_logs.specs.Events.{RestartEventsLogged, UpEventsLogged}
 use Rattle.claimed_logs.specs.Courses.{LeavesNothing, RestartCourse}
 use Rattle.claimed_logs.specs.Logs.{ForwardOpen, FrontsAlike, LogBelow, MemberLogged, OneLogged, RestartLogged, UpLogged}
 use Rattle.claimed_logs.specs.Steps.{CourseBelow, CourseEnds, CourseHands, CourseSteps, EndsSo, EndsTell, HandedLogged, LockedAlike, RestartStepsLogged, StillBelow, StillLogged, UpStepsLogged}
+use Rattle.claimed_logs.proofs.Adopting.{hands_counted}
 use Rattle.claimed_logs.proofs.Alike.{Facts as AlikeFacts, fronts_begin}
 use Rattle.claimed_logs.proofs.Courses.{own_course}
 use Rattle.claimed_logs.proofs.Ends.{all_over}
@@ -62,6 +63,7 @@ use Rattle.claimed_logs.proofs.Below.{handed_below}
 use Rattle.claimed_logs.proofs.Forward.{all_below, all_free, forward_begins, none_forward}
 use Rattle.claimed_logs.proofs.Logs.{names_below}
 use Rattle.claimed_logs.proofs.Own.{begun_locked, told_locked}
+use Rattle.claimed_logs.proofs.Up.{counted_still}
 
 -- of its log on disk
 pub record CourseFacts : Type 0 where
@@ -70,9 +72,16 @@ pub record CourseFacts : Type 0 where
   pub ends : CourseEnds
   pub below : CourseBelow
 
+-- of its numbers
+pub record CountFacts : Type 0 where
+  pub adopt : CountedAdopt
+  pub reach : CountedReach
+  pub more : CountedMore
+
 pub record Facts : Type 0 where
   pub alike : AlikeFacts
   pub courses : CourseFacts
+  pub counts : CountFacts
   pub locked : LockedReaches
   pub tell : EndsTell
   pub lists : ListsGo
@@ -277,7 +286,7 @@ in_any log w z s over l = record {
 }
 
 pub restart_events : Facts → RestartEventsLogged
-restart_events facts c d old new at m n w t e told left moves counts counted l = facts.one c d old new w z at n t l
+restart_events facts c d old new at m n w t e told left moves counts l = facts.one c d old new w z at n t l
     (record {
       has = e.has;
       members = e.count;
@@ -425,6 +434,15 @@ restart_events facts c d old new at m n w t e told left moves counts counted l =
     names_on : (b : Bool) → GoesOn b reached m.holds e.made.mid.restart ends.left → IfSome e.made.mid.restart (λ q. ListedBelow old.facility.counter q.resources.marks.trans.list)
     names_on true over = subst (λ (x : Option RestartHeld). IfSome x (λ q. ListedBelow old.facility.counter q.resources.marks.trans.list)) (sym over.0) tt
     names_on false over = subst (λ (x : Option RestartHeld). IfSome x (λ q. ListedBelow old.facility.counter q.resources.marks.trans.list)) (sym over.restart) (names_kept over.left over.rest over.takes)
+
+    -- no slot of it has a transaction, so what it takes over is counted
+    counted : AreCounted new.facility.counter n.holds.marks
+    counted =
+        let taken : AreCounted old.facility.counter ends.left.marks = hands_counted facts.counts.adopt old.facility.counter reached.resources.marks.is_up reached m.holds ends.left e.made.mid.restart ends.goes_on low.names (all_free m.holds.marks stood.slots none) logged.counted in
+        let after : AreCounted old.facility.counter ends.after.marks = facts.counts.reach old.facility.counter (begun ends.left e.place).marks ends.after.marks ends.tells.0 (counted_still ends.left.marks [] None None None e.place old.facility.counter taken) in
+        subst (λ (z : Member). AreCounted new.facility.counter z.holds.marks) (sym e.made.enters.member)
+        (counted_still e.made.mid.holds.marks e.made.mid.holds.marks.trans.decided e.made.mid.holds.marks.trans.offer None None e.made.mid.holds.marks.trans.place new.facility.counter
+        (subst (λ (z : Member). AreCounted new.facility.counter z.holds.marks) (sym ends.member) (facts.counts.more old.facility.counter new.facility.counter ends.after.marks rises after)))
 
     -- what its member is told changes nothing of it
     told_through : (x : List ℕ) → LogLocked x [] ends.left.marks → LogLocked x [] n.holds.marks

@@ -14,8 +14,8 @@ pub mod Restarts
 pub mod Courses
 pub mod Below
 pub mod Ends
+pub mod Adopting
 pub mod Runs
 pub mod Events
 pub mod Resting
 pub mod Taken
-pub mod Whole

@@ -77,7 +77,7 @@ use Rattle.claimed_logs.specs.Events.{RestartEventsLogged, RestingEventsLogged, 
 use Rattle.claimed_logs.specs.Failing.{AnyBytes, HandedBelow, HandedFailsLogged, HasFront, LeftClaimed, MovesLogged, RestartFailsLogged, RestartsStop, StopsBelow, UpFailsLogged}
 use Rattle.claimed_logs.specs.Found.{AdoptionsFound}
 use Rattle.claimed_logs.specs.Logs.{GroupFailsLogged, LogBelow, LogsClaimed, LogsKnow, MemberLogged, RestartLogged}
-use Rattle.claimed_logs.specs.Taken.{EventsKeep, LogsStand, Supplied}
+use Rattle.claimed_logs.specs.Taken.{EventsKeep, LogsStand}
 use Rattle.claimed_logs.proofs.Events.{within}
 use Rattle.claimed_logs.proofs.Resting.{own_log}
 
@@ -191,7 +191,7 @@ own_choices p script choice e = by p.is_idle (has_groupfail p script) (has_phase
     by true false false e = absurd (never (sym e))
     by false b c e = absurd (never (sym e))
 
-pub own_number : (event choice : ℕ) → event % 64 ≡ 0 → event / 64 ≡ choice → event ≡ choice * 64
+own_number : (event choice : ℕ) → event % 64 ≡ 0 → event / 64 ≡ choice → event ≡ choice * 64
 own_number event choice rest is =
     let whole : event / 64 * 64 + event % 64 ≡ event = div-add-mod' event 64 in
     let same : event / 64 * 64 ≡ choice * 64 = ap (λ z. z * 64) is in
@@ -324,7 +324,7 @@ record At (old new : CrewState) (at : ℕ) (m n : Member) : Type 0 where
   pub others : (k : ℕ) → k ≢ at → slice_get new.members k ≡ slice_get old.members k
   pub sizes : new.sizes ≡ old.sizes
 
-module _ (facts : Facts) (old new : CrewState) (w : World) (c d : Contents) (t : LocksTied old w) (given : Supplied c d old new w) (l : LogsClaimed c old w) (ends : EndsHold c old) (at : ℕ) (m n : Member) (here : At old new at m n) (u v : Resources) (place : ℕ)
+module _ (facts : Facts) (old new : CrewState) (w : World) (c d : Contents) (t : LocksTied old w) (l : LogsClaimed c old w) (ends : EndsHold c old) (at : ℕ) (m n : Member) (here : At old new at m n) (u v : Resources) (place : ℕ)
     (told : u.drive.contents ≡ Some c) (left : v.drive.contents ≡ Some d) (f : u ≡ record { facility = old.facility; drive = u.drive }) (g : v ≡ record { facility = new.facility; drive = v.drive }) where
   stood : MemberStands old.facility (at + 1) m
   stood = subst (λ (z : Option Member). IfSome z (MemberStands old.facility (at + 1))) here.had (t.stands at)
@@ -387,7 +387,7 @@ module _ (facts : Facts) (old new : CrewState) (w : World) (c d : Contents) (t :
       moves = facts.rests old new at m n w t steps_at
 
   restart_goes : (stepped : Stepped) → status_of old.facility.lists.statuses m.id ≡ status.Restarting → is_over stepped ≡ false → Steps m u old.fates place stepped n v new.fates → MovesLogged d old new w m
-  restart_goes (steps.Restart s a) standing over made = record { moves = moves.moves; logs = facts.restart c d old new at m n w t steps_at told left moves (counts_left facts.left (log_of c.logs (at + 1)) w m.restart m.holds.marks logged.restarts logged.course) (given.counted at m n steps_at logged.counted) l }
+  restart_goes (steps.Restart s a) standing over made = record { moves = moves.moves; logs = facts.restart c d old new at m n w t steps_at told left moves (counts_left facts.left (log_of c.logs (at + 1)) w m.restart m.holds.marks logged.restarts logged.course) l }
     where
       whole : Steps m (record { facility = old.facility; drive = u.drive }) old.fates place (steps.Restart s a) n (record { facility = new.facility; drive = v.drive }) new.fates
       whole = made_as (steps.Restart s a) made
@@ -615,7 +615,7 @@ above_zero (suc n) ne = omega arith
 
 -- ---- any event
 pub events_keep : {C D : Type 0} → (P : Type 0) (directory : C → Directory) (alive : D → Bool) (contents : D → Option Contents) (count : D → ℕ) → ((disk : D) (c : Contents) → contents disk ≡ Some c → LogsAreBytes c.logs) → Facts → EventsKeep P directory alive contents count
-events_keep {C} {D} P directory alive contents count bytes facts old new event w c d taken lawful no_group told left t given stand = elim (cases_Bool (takes old event)) [
+events_keep {C} {D} P directory alive contents count bytes facts old new event w c d taken lawful no_group told left t stand = elim (cases_Bool (takes old event)) [
   | inr isnt ↦ elim (cases_eq (event % 64) 0) [
     | inl own ↦ kept event OfPhase before after w d own (unmoved OfPhase isnt) (unmoved_ends isnt)
     | inr member ↦ kept event (OfMember (event % 64)) before after w d refl (unmoved (OfMember (event % 64)) isnt) (unmoved_ends isnt)
@@ -714,7 +714,7 @@ events_keep {C} {D} P directory alive contents count bytes facts old new event w
         by None y had has q = absurd q
         by (Some m) None had has q = absurd q
         by (Some m) (Some n) had has q = kept event (OfMember m.id) before after w d number (record { moves = logged_moves.moves; logs = logged_moves.logs })
-            (ends_go facts before after w c d t given l stand.ends at m n here u v (length new.journal.items) told left refl refl e.steps.known old.crew.script old.crew.progress.begun (event / 64) e.stepped q)
+            (ends_go facts before after w c d t l stand.ends at m n here u v (length new.journal.items) told left refl refl e.steps.known old.crew.script old.crew.progress.begun (event / 64) e.stepped q)
           where
             stood_at : m.id ≡ at + 1
             stood_at = (subst (λ (z : Option Member). IfSome z (MemberStands before.facility (at + 1))) had (t.stands at)).id
@@ -732,7 +732,7 @@ events_keep {C} {D} P directory alive contents count bytes facts old new event w
             here = record { had = had; has = has; count = some_at after.members before.members each; others = others; sizes = ap (λ z. z.sizes) e.steps.sizes }
 
             logged_moves : MovesLogged d before after w m
-            logged_moves = comes facts before after w c d t given l stand.ends at m n here u v (length new.journal.items) told left refl refl old.crew.script old.crew.progress.begun (event / 64) e.stepped q
+            logged_moves = comes facts before after w c d t l stand.ends at m n here u v (length new.journal.items) told left refl refl old.crew.script old.crew.progress.begun (event / 64) e.stepped q
 
     member_takes : event % 64 ≢ 0 → (why : Option RunFault) → new.fault ≡ why → TakesMember directory alive contents why old.crew old.disk at (event / 64) (length new.journal.items) taken.failed new.crew new.disk → Keeps event before after w d
     member_takes member None is e = member_goes member e

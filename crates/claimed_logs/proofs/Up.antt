@@ -110,7 +110,7 @@ locked_still s decided offer refused done place log pend l = record {
 }
 
 pub counted_still : (s : MarksState) (decided : List ℕ) (offer : Option Offer) (refused : Option Refused) (done : Option ℕ) (place counter : ℕ) → AreCounted counter s → AreCounted counter (telling s decided offer refused done place)
-counted_still s decided offer refused done place counter a = record { last = a.last; stable = a.stable; below = a.below; once = a.once }
+counted_still s decided offer refused done place counter a = record { last = a.last; stable = a.stable; below = a.below; once = a.once; free = a.free }
 
 begun_logged : (log : List ℕ) (counter : ℕ) (h : Held) (place : ℕ) → UpLogged log counter h.marks → UpLogged log counter (begun h place).marks
 begun_logged log counter h place l = record {

@@ -5,7 +5,6 @@ use Rattle.ds_disk.specs.Contents.{Contents, log_of}
 use Rattle.restart_records.specs.declared.trans.RestartStage.TheVariants as stage
 use Rattle.restart_records.specs.declared.trans.RestartTran.{RestartTran}
 use Rattle.lock_protocol.specs.Machine.{World}
-use Rattle.log_numbers.specs.Numbers.{AreCounted}
 use Rattle.failed_logs.specs.Given.{Member}
 use Rattle.failed_logs.specs.Given.{has_failed}
 use Rattle.group_core.specs.Given.{CrewState}
@@ -30,7 +29,7 @@ CountsLeft m = IfSome m.restart (λ q. q.resources.marks.trans.left ≡ 0 → Al
 abbrev pub RestartEventsLogged : Type 0
 RestartEventsLogged = (c d : Contents) (old new : CrewState) (at : ℕ) (m n : Member) (w : World)
     → LocksTied old w → (e : RestartStepsAt old new at m n w) → e.drive.contents ≡ Some c → e.left.contents ≡ Some d
-    → (moves : RestartMoves old new w m n e.sent) → CountsLeft m → AreCounted new.facility.counter n.holds.marks → LogsClaimed c old w → LogsClaimed d new moves.moves.world
+    → (moves : RestartMoves old new w m n e.sent) → CountsLeft m → LogsClaimed c old w → LogsClaimed d new moves.moves.world
 
 -- any other event of one that restarts
 abbrev pub RestingEventsLogged : Type 0

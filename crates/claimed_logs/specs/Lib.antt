@@ -1,3 +1,4 @@
+pub mod Given
 pub mod Found
 pub mod Commits
 pub mod Courses
@@ -8,4 +9,3 @@ pub mod Steps
 pub mod Runs
 pub mod Events
 pub mod Taken
-pub mod Whole

@@ -17,8 +17,7 @@ pub record StandsKnowing (s : CrewState) : Type 0 where
   pub stands : StandsBeside s world
   pub known : AllOpensKnown s world
 
--- It does before an event, where it stands beside any. The logs say so as long as they have their claims; that they have them through a whole run
--- isn't put together yet.
+-- It does before an event, where it stands beside any. The logs say so as long as they have their claims.
 abbrev pub FindsOpens : CrewState → CrewState → Type 0
 FindsOpens old new = (w : World) → StandsBeside old w → StandsKnowing old
 

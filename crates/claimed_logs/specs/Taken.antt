@@ -1,24 +1,16 @@
 -- The logs of a group behind any event of it.
-use Rattle.std.specs.Prelude.{◌≡◌, ◌≢◌, ℕ, ◌+◌, Bool, false, Option, Some, IfSome, is_some, slice_get}
-use Rattle.ds_disk.specs.Contents.{Contents, log_of}
+use Rattle.std.specs.Prelude.{◌≡◌, ◌≢◌, ℕ, Bool, false, Option, Some, is_some}
+use Rattle.ds_disk.specs.Contents.{Contents}
 use Rattle.cache_structure.specs.Directory.{Directory}
 use Rattle.lock_protocol.specs.Machine.{World}
-use Rattle.log_numbers.specs.Numbers.{AreCounted}
-use Rattle.failed_logs.specs.Given.{Member}
 use Rattle.group_core.specs.Given.{CrewState, crew_state}
 use Rattle.group_core.specs.declared.fault.RunFault.TheVariants as fault
 use Rattle.group_core.specs.declared.group.Group.{Group}
 use Rattle.group_core.specs.Takes.{Takes}
 use Rattle.failed_logs.specs.Given.{IsFor, Moves, Whose}
-use Rattle.failed_logs.specs.Given.{RestartStepsAt}
 use Rattle.failed_logs.specs.Given.{LocksTied}
 use Rattle.group_logs.specs.Known.{EndsHold}
 use Rattle.claimed_logs.specs.Logs.{LogsClaimed}
-
--- What an event takes from elsewhere, where the disk holds these before it, and those behind it. No contract says it yet.
-pub record Supplied (c d : Contents) (old new : CrewState) (w : World) : Type 0 where
-  -- no number of what a restart hands over is above the counter, or names another transaction of its member
-  pub counted : (at : ℕ) (m n : Member) → RestartStepsAt old new at m n w → AreCounted old.facility.counter m.holds.marks → AreCounted new.facility.counter n.holds.marks
 
 -- The logs have their claims in this world, and are whole records up to where their members know them to be.
 pub record LogsStand (c : Contents) (s : CrewState) (w : World) : Type 0 where
@@ -29,6 +21,5 @@ pub record LogsStand (c : Contents) (s : CrewState) (w : World) : Type 0 where
 abbrev pub EventsKeep : {C D : Type 0} → (P : Type 0) → (C → Directory) → (D → Bool) → (D → Option Contents) → (D → ℕ) → Type 0
 EventsKeep {C} {D} P directory alive contents count = (old new : Group D C P) (event : ℕ) (w : World) (c d : Contents)
     → Takes directory alive contents count old event new → ((at : ℕ) → new.fault ≢ Some (fault.Unlawful at)) → is_some old.crew.restart ≡ false
-    → contents old.disk ≡ Some c → contents new.disk ≡ Some d → LocksTied (crew_state directory old.crew) w → Supplied c d (crew_state directory old.crew) (crew_state directory new.crew) w
-    → LogsStand c (crew_state directory old.crew) w
+    → contents old.disk ≡ Some c → contents new.disk ≡ Some d → LocksTied (crew_state directory old.crew) w → LogsStand c (crew_state directory old.crew) w
     → (by : Whose) × IsFor event by × (moves : Moves by (crew_state directory old.crew) (crew_state directory new.crew) w) × LogsStand d (crew_state directory new.crew) moves.world

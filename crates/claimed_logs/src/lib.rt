@@ -12,17 +12,18 @@ ghost use Rattle.claimed_logs.specs.Logs.{ClosingLeaves, FreshLogged, GroupFails
 ghost use Rattle.claimed_logs.specs.Runs.{KnowingRunsStand};
 ghost use Rattle.claimed_logs.specs.Steps.{CourseBelow, CourseEnds, CourseHands, CourseSteps, EndsTell, HandedLogged, RestartStepsLogged, RestingStays, UpStepsLogged};
 ghost use Rattle.claimed_logs.specs.Taken.{EventsKeep};
-ghost use Rattle.claimed_logs.specs.Whole.{LoggedRunsStand, StartsLogged};
 
 use adopted_claims::adopted_have_claims;
 use cache_structure::CacheFace;
 use ds_disk::Disk;
+pub use failed_logs::groups_go;
 use failed_logs::{
-    claims_stay as logs_stay_claimed, failures_claim, groups_go, groups_run, logs_stay_locked,
+    claims_stay as logs_stay_claimed, failures_claim, groups_run, logs_stay_locked,
     logs_taken_over, member_restarts_go, member_steps_go, members_go, moves_spare, phases_go,
     resting_members_go,
 };
-use group_logs::{known_ends, members_log, rests_are_unknown};
+pub use group_logs::{groups_log, known_ends, known_starts};
+use group_logs::{members_log, rests_are_unknown};
 use lock_restarts::{restarts_follow, sends_lawfully};
 use log_appends::{appends_tell, rests_tell};
 use log_numbers::{commands_count, forward_stays, numbers_stay};
@@ -178,7 +179,7 @@ pub fn courses_go()
 /// So the logs of all members stay claimed behind an event of one that is up, if no record of its log names a transaction by a number above the
 /// counter: it changes no row for one that the log closes. And
 /// behind one of a member that restarts, in which no call of the disk fails: of the restart if it counts no transaction as left where each is
-/// over, and the numbers stay counted of what it hands over.
+/// over.
 pub fn events_logged()
     ensures up { UpEventsLogged }
     ensures restart { RestartEventsLogged }
@@ -204,8 +205,8 @@ pub fn events_logged()
     numbers_stay();
 }
 
-/// So it stays behind any event of a group that isn't refused, while no group restart is in hand, given what no contract says yet; and each log
-/// is whole records up to where its member knows it to be.
+/// So it stays behind any event of a group that isn't refused, while no group restart is in hand; and each log is whole records up to where its
+/// member knows it to be.
 pub fn events_keep<D: Disk, C: CacheFace, P>()
     ensures { EventsKeep P C.directory D.alive D.contents D.faults }
 {
@@ -226,17 +227,4 @@ pub fn events_keep<D: Disk, C: CacheFace, P>()
     rests_tell();
     known_ends();
     rests_are_unknown();
-}
-
-/// So it stands wherever events lead a group that has just started over logs that stand, none of which is refused, over a disk that tells what it
-/// holds, given what no contract says yet: beside a sound world of locks in which the logs have their claims, and the claims that members know of
-/// agree.
-pub fn logged_runs<D: Disk, C: CacheFace, P>()
-    ensures runs { LoggedRunsStand P C.directory D.alive D.contents D.faults }
-    ensures starts { StartsLogged P C.directory D.contents }
-{
-    groups_go();
-    logs_claimed();
-    knowing_runs::<D, C, P>();
-    events_keep::<D, C, P>();
 }

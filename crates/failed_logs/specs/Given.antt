@@ -15,7 +15,7 @@ pub use Rattle.group_member.specs.Members.{Member, IsDown, member_of}
 pub use Rattle.group_member.specs.Stepping.{has_failed, is_failure, is_fail, is_over}
 pub use Rattle.group_member.specs.declared.stepped.Stepped.{Stepped}
 pub use Rattle.marks_law.specs.Free.{FreeHoldNothing}
-pub use Rattle.group_member.specs.Adopting.{AdoptsAll}
+pub use Rattle.group_member.specs.Adopting.{AdoptsAll, changes_left, rows_left}
 pub use Rattle.group_member.specs.Resting.{NoneInSlots}
 pub use Rattle.group_member.specs.Happening.{AdoptsLeft, Steps, GoesOn, RestartEnds, RestartGoesOn, as_restarting, Acts, RebuildEnds, RebuildGoesOn, Rebuilds, Restarts, Takes, Makes, as_rebuilding, Breaks, Comes, RestartSent}
 pub use Rattle.group_member.specs.declared.restarting.Restarting.{Restarting}

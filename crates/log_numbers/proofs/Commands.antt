@@ -1,16 +1,14 @@
 -- The counter behind a command.
-use Rattle.std.proofs.Common.{◌≡◌, ℕ, ◌+◌, ◌≤◌, refl, sym, ap, subst, arith, Bool, true, false, List, Option, Some, None}
-use Rattle.std.specs.Prelude.{nat_lt, if◌then◌else◌}
+use Rattle.std.proofs.Common.{◌≡◌, ℕ, ◌+◌, ◌≤◌, sym, subst, arith, Option, Some, None}
+use Rattle.std.specs.Prelude.{nat_lt}
 use Rattle.std.proofs.lemmas.Bool.{cond_both}
 use Rattle.ds_model.specs.declared.lock.Name.{Name}
 use Rattle.lock_names.specs.declared.mode.Mode.{Mode}
 use Rattle.list_structure.specs.declared.query.Asker.{Asker}
 use Rattle.list_structure.specs.declared.query.CellAnswer.{CellAnswer}
-use Rattle.facility.specs.declared.command.Command.{Command}
 use Rattle.facility.specs.declared.command.Command.TheVariants as command
 use Rattle.facility.specs.declared.command.Reply.{Reply}
 use Rattle.facility.specs.declared.command.Reply.TheVariants as reply
-use Rattle.facility.specs.Commands.{Executes}
 use Rattle.facility.specs.Counting.{counter_after, drawn_to, first_stale, given, limit}
 use Rattle.facility.specs.ListCommands.{AnswersQuery}
 use Rattle.facility.specs.States.{Held}

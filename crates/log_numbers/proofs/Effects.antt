@@ -1,6 +1,6 @@
 -- The numbers behind the reply to an intent.
 use Rattle.std.proofs.Common.{◌≡◌, ℕ, refl, sym, ◌∙◌, ap, subst, arith, Bool, true, false, List, Option, Some, None}
-use Rattle.std.specs.Prelude.{nat_lt, if◌then◌else◌, is_some, length, slice_set}
+use Rattle.std.specs.Prelude.{nat_lt, is_some, length, slice_set}
 use Rattle.std.proofs.lemmas.Bool.{cond_both}
 use Rattle.ds_base.specs.declared.names.PageId.{PageId}
 use Rattle.ds_base.specs.declared.names.TranId.{TranId}
@@ -27,12 +27,11 @@ use Rattle.member_intents.specs.declared.intent.Frames.{Frames}
 use Rattle.member_pool.specs.Heads.{freed, written as head_written}
 use Rattle.member_trans.specs.declared.fate.Owner.{Owner}
 use Rattle.member_trans.specs.declared.fate.Owner.TheVariants as owner
-use Rattle.member_trans.specs.Trans.{TransState, free_tran, place_of, rollback_ended, slot_ended, with_released, with_tran, with_tran_of}
-use Rattle.member_marks.specs.Claims.{PageEntered, after_end_of, after_release_of, after_release_page, entered, entered_as, has_page, has_spare, is_agent, is_for_agents, lock_place, may_claim, may_enter_page, noted_released, offered, rollback_over, rollback_releasing}
-use Rattle.member_marks.specs.Frames.{after_filled, after_marked, after_registered, after_unregister, after_written, frame_in, is_placed, with_filled, with_registered}
+use Rattle.member_trans.specs.Trans.{TransState, free_tran, is_forward, place_of, rollback_ended, tran_at, with_released}
+use Rattle.member_marks.specs.Claims.{PageEntered, after_end_of, after_release_of, entered, entered_as, has_page, has_spare, is_agent, is_for_agents, lock_place, may_claim, may_enter_page, noted_released, offered, rollback_over, rollback_releasing}
+use Rattle.member_marks.specs.Frames.{after_filled, after_marked, after_registered, frame_in, is_placed, with_filled, with_registered}
 use Rattle.member_marks.specs.Names.{without_name}
-use Rattle.member_marks.specs.Records.{after_change}
-use Rattle.member_marks.specs.State.{MarksState, slot_id, tran_of, with_locks, with_trans}
+use Rattle.member_marks.specs.State.{MarksState, slot_id, slot_tran, tran_of, with_locks}
 use Rattle.member_needs.specs.declared.plans.Plan.{Plan}
 use Rattle.member_needs.specs.declared.plans.Plan.TheVariants as plan
 use Rattle.member_needs.specs.Records.{frame_of}
@@ -48,7 +47,7 @@ use Rattle.member_effects.specs.Frames.{full_at, read_after, tested_after, unreg
 use Rattle.member_effects.specs.Kept.{Kept}
 use Rattle.log_numbers.proofs.Lists.{removed_named}
 use Rattle.log_numbers.proofs.Records.{draws_change, draws_commit, draws_system, draws_undo, owner_like, slot_none}
-use Rattle.log_numbers.proofs.Stays.{Draws, Fewer, Stays, draws_after, draws_as, draws_stays, fewer_itself, fewer_same, stays_as, stays_fewer, stays_heads, stays_if, stays_itself, stays_locks, stays_names, stays_on, stays_same}
+use Rattle.log_numbers.proofs.Stays.{Draws, Fewer, Stays, draws_after, draws_stays, fewer_itself, fewer_same, stays_as, stays_fewer, stays_heads, stays_if, stays_itself, stays_locks, stays_names, stays_on, stays_same}
 
 -- ---- refusals
 pub stays_offered : (s : MarksState) (o : Owner) (r : Refusal) (place : ℕ) → Stays s (offered s o r place)
@@ -147,7 +146,7 @@ stays_claimed s t o n m answer place e = stays_as s t (refused_after s o n answe
 
 -- ---- a lock is given up
 noted : (s : MarksState) (o : Owner) (b : Book) → Stays s (with_locks (noted_released s o) b)
-noted s o b = stays_fewer s (with_locks (noted_released s o) b) refl (owner_like s.trans o (with_released (tran_of s o)) refl (λ e. e))
+noted s o b = stays_fewer s (with_locks (noted_released s o) b) refl (owner_like s.trans o (with_released (tran_of s o)) refl (λ e. e) (λ e. e))
 
 release_of : (s : MarksState) (o : Owner) → Stays s (after_release_of s o)
 release_of s (owner.Slot slot) = stays_if s _ _ (is_agent s slot) (noted s (owner.Slot slot) (after_release s.locks slot)) (stays_itself s)
@@ -164,10 +163,10 @@ stays_page_released s p _ = stays_itself s
 -- ---- a transaction ends
 rollback_gone : (t : TransState) (k : Option ℕ) → Fewer t (rollback_ended t k)
 rollback_gone t None = fewer_itself t
-rollback_gone t (Some k) = record { named = λ id some. (let r = removed_named t.rollbacks k id in omega (arith, r)); forward = λ id some. omega arith }
+rollback_gone t (Some k) = record { named = λ id some. (let r = removed_named t.rollbacks k id in omega (arith, r)); forward = λ id some. omega arith; free = λ all. all }
 
 pub stays_ended_of : (s : MarksState) (o : Owner) → Stays s (after_end_of s o)
-stays_ended_of s (owner.Slot slot) = stays_if s _ _ (is_agent s slot) (stays_fewer s _ refl (record { named = (slot_none s.trans slot free_tran refl).named; forward = (slot_none s.trans slot free_tran refl).forward })) (stays_itself s)
+stays_ended_of s (owner.Slot slot) = stays_if s _ _ (is_agent s slot) (stays_fewer s _ refl (record { named = (slot_none s.trans slot free_tran refl).named; forward = (slot_none s.trans slot free_tran refl).forward; free = (slot_none s.trans slot free_tran refl).free })) (stays_itself s)
 stays_ended_of s (owner.Rollback id) = stays_fewer s (rollback_over s id) refl (rollback_gone s.trans (place_of s.trans id))
 
 pub stays_ended : (s : MarksState) (o : Owner) (answer : Reply) → Stays s (ended_after s o answer)
@@ -200,12 +199,26 @@ row_in : (k : Kept) (o : Option ℕ) (c : RowChange) (n : ℕ) → Stays k.marks
 row_in k None c n = stays_itself k.marks
 row_in k (Some at) c n = row_at k at (frame_in k.marks.heads at).page c n
 
-draws_changed : (k : Kept) (slot : ℕ) (frames : Frames) (p : Plan) (n : ℕ) → Draws n k.marks (changed_by k slot frames p n).marks
-draws_changed k slot frames plan.None n = draws_stays n k.marks k.marks (stays_itself k.marks)
-draws_changed k slot frames (plan.System ps) n = draws_after n k.marks (patched_frames k frames ps n).marks _ (patched_all k frames ps n) (draws_system (patched_frames k frames ps n).marks slot n ps)
-draws_changed k slot frames (plan.Row c) n = draws_after n k.marks (row_nth k (frame_of frames 0) c n).marks _ (row_in k (frame_of frames 0) c n) (draws_change (row_nth k (frame_of frames 0) c n).marks slot n c)
-draws_changed k slot frames (plan.Back c) n = draws_stays n k.marks k.marks (stays_itself k.marks)
-draws_changed k slot frames (plan.Fault page at) n = draws_stays n k.marks k.marks (stays_itself k.marks)
+-- and its transactions are what they were
+row_page_trans : (k : Kept) (at : ℕ) (o : Option PageId) (c : RowChange) (n : ℕ) → (row_page k at o c n).marks.trans ≡ k.marks.trans
+row_page_trans k at None c n = refl
+row_page_trans k at (Some id) c n = cond_both (nat_lt at (length k.pages)) (put_page k at id (after_row n c (bytes_at k.pages at))) k (λ z. z.marks.trans ≡ k.marks.trans)
+    (λ e. marked_trans k.marks at (rank_of id (bytes_at (slice_set k.pages at (after_row n c (bytes_at k.pages at))) at))) (λ e. refl)
+  where
+    marked_trans : (s : MarksState) (at : ℕ) (rank : Rank) → (after_marked s at rank).trans ≡ s.trans
+    marked_trans s at rank = cond_both (is_placed s.heads at) _ s (λ z. z.trans ≡ s.trans) (λ e. refl) (λ e. refl)
+
+row_trans : (k : Kept) (o : Option ℕ) (c : RowChange) (n : ℕ) → (row_nth k o c n).marks.trans ≡ k.marks.trans
+row_trans k None c n = refl
+row_trans k (Some at) c n = row_page_trans k at (frame_in k.marks.heads at).page c n
+
+draws_changed : (k : Kept) (slot : ℕ) (frames : Frames) (p : Plan) (n : ℕ) → is_forward (slot_tran k.marks slot).stage ≡ true → Draws n k.marks (changed_by k slot frames p n).marks
+draws_changed k slot frames plan.None n goes = draws_stays n k.marks k.marks (stays_itself k.marks)
+draws_changed k slot frames (plan.System ps) n goes = draws_after n k.marks (patched_frames k frames ps n).marks _ (patched_all k frames ps n) (draws_system (patched_frames k frames ps n).marks slot n ps)
+draws_changed k slot frames (plan.Row c) n goes = draws_after n k.marks (row_nth k (frame_of frames 0) c n).marks _ (row_in k (frame_of frames 0) c n)
+    (draws_change (row_nth k (frame_of frames 0) c n).marks slot n c (ap (λ (z : TransState). is_forward (tran_at z slot).stage) (row_trans k (frame_of frames 0) c n) ∙ goes))
+draws_changed k slot frames (plan.Back c) n goes = draws_stays n k.marks k.marks (stays_itself k.marks)
+draws_changed k slot frames (plan.Fault page at) n goes = draws_stays n k.marks k.marks (stays_itself k.marks)
 
 draws_back : (k : Kept) (o : Owner) (at : ℕ) (p : Plan) (n : ℕ) → Draws n k.marks (back_by k o at p n).marks
 draws_back k o at (plan.Back c) n = draws_after n k.marks (row_frame k at c n).marks _ (row_at k at (frame_in k.marks.heads at).page c n) (draws_undo (row_frame k at c n).marks o n)
@@ -224,9 +237,9 @@ abbrev pub DrawsBy : Reply → MarksState → MarksState → Type 0
 DrawsBy (reply.Drawn n) s t = Draws n s t
 DrawsBy _ s t = Stays s t
 
-pub drawn_goes : (k : Kept) (slot : ℕ) (frames : Frames) (p : Plan) (answer : Reply) (place : ℕ) → DrawsBy answer k.marks (drawn_after k slot frames p answer place).marks
-drawn_goes k slot frames p (reply.Drawn n) place = draws_changed k slot frames p n
-drawn_goes k slot frames p answer place = undrawn k.marks (owner.Slot slot) answer place
+pub drawn_goes : (k : Kept) (slot : ℕ) (frames : Frames) (p : Plan) (answer : Reply) (place : ℕ) → is_forward (slot_tran k.marks slot).stage ≡ true → DrawsBy answer k.marks (drawn_after k slot frames p answer place).marks
+drawn_goes k slot frames p (reply.Drawn n) place goes = draws_changed k slot frames p n goes
+drawn_goes k slot frames p answer place goes = undrawn k.marks (owner.Slot slot) answer place
 
 pub undone_goes : (k : Kept) (o : Owner) (at : ℕ) (p : Plan) (answer : Reply) (place : ℕ) → DrawsBy answer k.marks (undone_after k o at p answer place).marks
 undone_goes k o at p (reply.Drawn n) place = draws_back k o at p n

@@ -1,7 +1,6 @@
 -- The numbers behind any event of a member.
-use Rattle.std.proofs.Common.{◌≡◌, ℕ, ◌+◌, ◌≤◌, refl, sym, ◌∙◌, ap, subst, arith, Bool, true, false, List, [], ◌∷◌, length, Option, Some, None, Result, Ok, Err}
-use Rattle.std.specs.Prelude.{◌≢◌, nat_lt, if◌then◌else◌}
-use Rattle.std.proofs.lemmas.Bool.{cond_both}
+use Rattle.std.proofs.Common.{◌≡◌, ℕ, zero, suc, ◌+◌, ◌≤◌, refl, sym, ◌∙◌, ap, subst, arith, Bool, true, false, List, [], ◌∷◌, length, Option, Some, None, Result, Ok, Err}
+use Rattle.std.specs.Prelude.{◌≢◌, nat_lt, if◌then◌else◌, slice_index_or, slice_set}
 use Rattle.ds_base.specs.declared.names.PageId.{PageId}
 use Rattle.ds_disk.specs.declared.disk.DiskError.{DiskError}
 use Rattle.ds_disk.specs.declared.disk.DiskError.TheVariants as disk_error
@@ -21,7 +20,7 @@ use Rattle.member_intents.specs.declared.outcome.Answered.{Answered}
 use Rattle.member_intents.specs.declared.outcome.Sent.{Sent}
 use Rattle.member_intents.specs.declared.outcome.Sent.TheVariants as sent
 use Rattle.member_intents.specs.declared.test.Test.{Test}
-use Rattle.member_trans.specs.Trans.{after_event, tran_at, with_room}
+use Rattle.member_trans.specs.Trans.{TranState, free_tran, is_forward, with_room}
 use Rattle.member_marks.specs.State.{MarksState, slot_tran}
 use Rattle.member_needs.specs.declared.plans.Plan.{Plan}
 use Rattle.member_needs.specs.Needs.{need_of}
@@ -34,10 +33,10 @@ use Rattle.member_resources.specs.declared.lending.Lent.TheVariants as lent
 use Rattle.member_resources.specs.Events.{Calls, Drive, Happens, ReadsAs, ReadsFrame, Runs, RunsCall, RunsCommand, SettlesAs, Stores, World, frame_read, holder_in, waits_in}
 use Rattle.member_resources.specs.Held.{Held, begun, with_spare}
 use Rattle.member_resources.specs.Lending.{lent_of, with_bytes}
-use Rattle.member_resources.specs.Prepared.{Reserves, needed, planned, setting_of, with_change_room}
+use Rattle.member_resources.specs.Prepared.{Reserves, needed, setting_of, with_change_room}
 use Rattle.member_resources.specs.Settled.{Settles, cast_read, kept_of, settled, stored, unsent}
 use Rattle.needs_law.specs.Lawful.{Lawful, SendsLawfully}
-use Rattle.log_numbers.specs.Numbers.{AreCounted, CountedStay, ForwardStay, StillCounted, forward_in}
+use Rattle.log_numbers.specs.Numbers.{AreCounted, CountedStay, ForwardStay, forward_in}
 use Rattle.log_numbers.proofs.Commands.{commands_count}
 use Rattle.log_numbers.proofs.Effects.{DrawsBy, committed_goes, drawn_goes, goes_as, stays_claimed, stays_cycle, stays_ended, stays_ended_of, stays_filled, stays_found, stays_page_released, stays_purged, stays_read, stays_released, stays_tested, stays_unregistered, stays_written, undone_goes}
 use Rattle.log_numbers.proofs.Locals.{reach_stays}
@@ -55,6 +54,11 @@ draws_in (intent.Undo o at) = true
 draws_in (intent.Commit slot) = true
 draws_in _ = false
 
+-- by a change a transaction that goes forward
+abbrev pub GoesForward : Intent → MarksState → Type 0
+GoesForward (intent.Change slot action frames) s = is_forward (slot_tran s slot).stage ≡ true
+GoesForward _ s = Unit {0}
+
 abbrev pub GoesBy : Bool → Reply → MarksState → MarksState → Type 0
 GoesBy true answer s t = DrawsBy answer s t
 GoesBy false answer s t = Stays s t
@@ -66,28 +70,28 @@ cast_stays : (h : Held) (page : PageId) (answer : Reply) → Stays h.marks (cast
 cast_stays h page reply.Taken = stays_itself h.marks
 cast_stays h page _ = stays_itself h.marks
 
-settles_go : (h k : Held) (i : Intent) (p : Plan) (answer : Reply) (cells : List Cell) (place : ℕ) → Settles h i p answer cells place k → GoesBy (draws_in i) answer h.marks k.marks
-settles_go h k (intent.Obtain o n m) p answer cells place e = stays_claimed h.marks k.marks o n m answer place e.0
-settles_go h k (intent.Grant o n m) p answer cells place e = stays_claimed h.marks k.marks o n m answer place e.0
-settles_go h k (intent.Answers o n m asked) p answer cells place e = marks_as h k (settled h (intent.Answers o n m asked) p answer cells place) e (stays_found h.marks o n (summed cells 0 asked n m nothing).found)
-settles_go h k (intent.ReleaseLock o) p answer cells place e = marks_as h k (settled h (intent.ReleaseLock o) p answer cells place) e (stays_released h.marks o answer)
-settles_go h k (intent.ReleasePage page) p answer cells place e = marks_as h k (settled h (intent.ReleasePage page) p answer cells place) e (stays_page_released h.marks page answer)
-settles_go h k (intent.Purge n) p answer cells place e = marks_as h k (settled h (intent.Purge n) p answer cells place) e (stays_purged h.marks n answer)
-settles_go h k (intent.End o) p answer cells place e = marks_as h k (settled h (intent.End o) p answer cells place) e (stays_ended h.marks o answer)
-settles_go h k (intent.Read at) p answer cells place e = marks_as h k (settled h (intent.Read at) p answer cells place) e (stays_read h.marks at answer)
-settles_go h k (intent.Test at slot gives) p answer cells place e = marks_as h k (settled h (intent.Test at slot gives) p answer cells place) e (stays_tested h.marks h.pages at slot gives h.limit answer place)
-settles_go h k (intent.WritePage at) p answer cells place e = marks_as h k (settled h (intent.WritePage at) p answer cells place) e (stays_written h.marks at answer)
-settles_go h k (intent.Unregister at) p answer cells place e = marks_as h k (settled h (intent.Unregister at) p answer cells place) e (stays_unregistered h.marks at answer)
-settles_go h k (intent.Change slot action frames) p answer cells place e = goes_as answer h.marks k.marks (settled h (intent.Change slot action frames) p answer cells place).marks (ap (λ (z : Held). z.marks) e) (drawn_goes (kept_of h) slot frames p answer place)
-settles_go h k (intent.Undo o at) p answer cells place e = goes_as answer h.marks k.marks (settled h (intent.Undo o at) p answer cells place).marks (ap (λ (z : Held). z.marks) e) (undone_goes (kept_of h) o at p answer place)
-settles_go h k (intent.Commit slot) p answer cells place e = goes_as answer h.marks k.marks (settled h (intent.Commit slot) p answer cells place).marks (ap (λ (z : Held). z.marks) e) (committed_goes h.marks slot answer place)
-settles_go h k (intent.CastoutRead page) p answer cells place e = marks_as h k (settled h (intent.CastoutRead page) p answer cells place) e (cast_stays h page answer)
-settles_go h k i p answer cells place e = marks_as h k (settled h i p answer cells place) e (stays_itself h.marks)
+settles_go : (h k : Held) (i : Intent) (p : Plan) (answer : Reply) (cells : List Cell) (place : ℕ) → GoesForward i h.marks → Settles h i p answer cells place k → GoesBy (draws_in i) answer h.marks k.marks
+settles_go h k (intent.Obtain o n m) p answer cells place goes e = stays_claimed h.marks k.marks o n m answer place e.0
+settles_go h k (intent.Grant o n m) p answer cells place goes e = stays_claimed h.marks k.marks o n m answer place e.0
+settles_go h k (intent.Answers o n m asked) p answer cells place goes e = marks_as h k (settled h (intent.Answers o n m asked) p answer cells place) e (stays_found h.marks o n (summed cells 0 asked n m nothing).found)
+settles_go h k (intent.ReleaseLock o) p answer cells place goes e = marks_as h k (settled h (intent.ReleaseLock o) p answer cells place) e (stays_released h.marks o answer)
+settles_go h k (intent.ReleasePage page) p answer cells place goes e = marks_as h k (settled h (intent.ReleasePage page) p answer cells place) e (stays_page_released h.marks page answer)
+settles_go h k (intent.Purge n) p answer cells place goes e = marks_as h k (settled h (intent.Purge n) p answer cells place) e (stays_purged h.marks n answer)
+settles_go h k (intent.End o) p answer cells place goes e = marks_as h k (settled h (intent.End o) p answer cells place) e (stays_ended h.marks o answer)
+settles_go h k (intent.Read at) p answer cells place goes e = marks_as h k (settled h (intent.Read at) p answer cells place) e (stays_read h.marks at answer)
+settles_go h k (intent.Test at slot gives) p answer cells place goes e = marks_as h k (settled h (intent.Test at slot gives) p answer cells place) e (stays_tested h.marks h.pages at slot gives h.limit answer place)
+settles_go h k (intent.WritePage at) p answer cells place goes e = marks_as h k (settled h (intent.WritePage at) p answer cells place) e (stays_written h.marks at answer)
+settles_go h k (intent.Unregister at) p answer cells place goes e = marks_as h k (settled h (intent.Unregister at) p answer cells place) e (stays_unregistered h.marks at answer)
+settles_go h k (intent.Change slot action frames) p answer cells place goes e = goes_as answer h.marks k.marks (settled h (intent.Change slot action frames) p answer cells place).marks (ap (λ (z : Held). z.marks) e) (drawn_goes (kept_of h) slot frames p answer place goes)
+settles_go h k (intent.Undo o at) p answer cells place goes e = goes_as answer h.marks k.marks (settled h (intent.Undo o at) p answer cells place).marks (ap (λ (z : Held). z.marks) e) (undone_goes (kept_of h) o at p answer place)
+settles_go h k (intent.Commit slot) p answer cells place goes e = goes_as answer h.marks k.marks (settled h (intent.Commit slot) p answer cells place).marks (ap (λ (z : Held). z.marks) e) (committed_goes h.marks slot answer place)
+settles_go h k (intent.CastoutRead page) p answer cells place goes e = marks_as h k (settled h (intent.CastoutRead page) p answer cells place) e (cast_stays h page answer)
+settles_go h k i p answer cells place goes e = marks_as h k (settled h i p answer cells place) e (stays_itself h.marks)
 
 -- whatever was looked for: a look for a cycle draws nothing
-pub settled_go : (h k : Held) (i : Intent) (p : Plan) (waits : List Wait) (answer : Reply) (cells : List Cell) (place : ℕ) (said : Told) → SettlesAs (waits_in i) h i p waits cells answer place said k → GoesBy (draws_in i) answer h.marks k.marks
-settled_go h k (intent.Waits slots) p waits answer cells place said e = stays_cycle h.marks k.marks waits slots place said e.0
-settled_go h k i p waits answer cells place said e = settles_go h k i p answer cells place e.1
+pub settled_go : (h k : Held) (i : Intent) (p : Plan) (waits : List Wait) (answer : Reply) (cells : List Cell) (place : ℕ) (said : Told) → GoesForward i h.marks → SettlesAs (waits_in i) h i p waits cells answer place said k → GoesBy (draws_in i) answer h.marks k.marks
+settled_go h k (intent.Waits slots) p waits answer cells place said goes e = stays_cycle h.marks k.marks waits slots place said e.0
+settled_go h k i p waits answer cells place said goes e = settles_go h k i p answer cells place goes e.1
 
 -- ---- what a command draws
 
@@ -147,13 +151,13 @@ lent_same h k (lent.Frame at) page e = ap (λ (z : Held). z.marks) e
 lent_same h k lent.Buffer page e = ap (λ (z : Held). z.marks) e
 lent_same h k lent.Spare page e = ap (λ (z : Held). z.marks) e
 
-ran_goes : (b : MarksState) (pages : List (List ℕ)) (set : Setting) (w v : Facility) (h k : Held) (i : Intent) (c : Command) (p : Plan) (place : ℕ) (a : Answered) (said : Told) → Lawful b pages set i (sent.Command c)
+ran_goes : (b : MarksState) (pages : List (List ℕ)) (set : Setting) (w v : Facility) (h k : Held) (i : Intent) (c : Command) (p : Plan) (place : ℕ) (a : Answered) (said : Told) → Lawful b pages set i (sent.Command c) → GoesForward i h.marks
     → RunsCommand w h i c p place a said v k → Goes w.counter v.counter h.marks k.marks
-ran_goes b pages set w v h k i c p place a said lawful r =
+ran_goes b pages set w v h k i c p place a said lawful forward r =
     let same = lent_same h r.after (lent_of h c) _ r.gives.executed.back in
     subst (λ (z : MarksState). Goes w.counter v.counter z k.marks) same
     (command_goes b pages set i c w v h.marks.member _ _ r.answer r.after.marks k.marks lawful r.gives.executed.executes
-    (settled_go r.after k i p v.lists.waits r.answer (cells_for v.lists.cells r.after.marks.member c) place said r.settles))
+    (settled_go r.after k i p v.lists.waits r.answer (cells_for v.lists.cells r.after.marks.member c) place said (subst (λ (z : MarksState). GoesForward i z) (sym same) forward) r.settles))
 
 ran_rises : (w v : Facility) (h k : Held) (i : Intent) (c : Command) (p : Plan) (place : ℕ) (a : Answered) (said : Told) → RunsCommand w h i c p place a said v k → w.counter ≤ v.counter
 ran_rises w v h k i c p place a said r = commands_count w v h.marks.member c _ _ r.answer r.gives.executed.executes
@@ -199,23 +203,37 @@ pub record RunsOn (w v : Facility) (s t : MarksState) : Type 0 where
 same_counter : (w v : Facility) (s t : MarksState) → v ≡ w → Stays s t → RunsOn w v s t
 same_counter w v s t e stays = subst (λ (z : Facility). RunsOn w z s t) (sym e) (record { rises = itself w.counter; goes = goes_stays w.counter w.counter s t (itself w.counter) stays })
 
-runs_on : (b : MarksState) (pages : List (List ℕ)) (set : Setting) (w v : World) (h k : Held) (i : Intent) (s : Sent) (p : Plan) (place : ℕ) (a : Answered) (said : Told) → Lawful b pages set i s
+runs_on : (b : MarksState) (pages : List (List ℕ)) (set : Setting) (w v : World) (h k : Held) (i : Intent) (s : Sent) (p : Plan) (place : ℕ) (a : Answered) (said : Told) → Lawful b pages set i s → GoesForward i h.marks
     → Runs w h i s p place a said v k → RunsOn w.facility v.facility h.marks k.marks
-runs_on b pages set w v h k i sent.None p place a said lawful r = same_counter w.facility v.facility h.marks k.marks (ap (λ (z : World). z.facility) r.world) (marks_as h k (unsent h i) r.held (unsent_stays h i))
-runs_on b pages set w v h k i (sent.Command x) p place a said lawful r = record { rises = ran_rises w.facility v.facility h k i x p place a said r.0; goes = ran_goes b pages set w.facility v.facility h k i x p place a said lawful r.0 }
-runs_on b pages set w v h k i sent.AppendLog p place a said lawful r = same_counter w.facility v.facility h.marks k.marks r.1 (called_stays w.drive v.drive h k i sent.AppendLog a said r.0)
-runs_on b pages set w v h k i (sent.ReadPage page) p place a said lawful r = same_counter w.facility v.facility h.marks k.marks r.1 (called_stays w.drive v.drive h k i (sent.ReadPage page) a said r.0)
-runs_on b pages set w v h k i (sent.WritePage page) p place a said lawful r = same_counter w.facility v.facility h.marks k.marks r.1 (called_stays w.drive v.drive h k i (sent.WritePage page) a said r.0)
+runs_on b pages set w v h k i sent.None p place a said lawful forward r = same_counter w.facility v.facility h.marks k.marks (ap (λ (z : World). z.facility) r.world) (marks_as h k (unsent h i) r.held (unsent_stays h i))
+runs_on b pages set w v h k i (sent.Command x) p place a said lawful forward r = record { rises = ran_rises w.facility v.facility h k i x p place a said r.0; goes = ran_goes b pages set w.facility v.facility h k i x p place a said lawful forward r.0 }
+runs_on b pages set w v h k i sent.AppendLog p place a said lawful forward r = same_counter w.facility v.facility h.marks k.marks r.1 (called_stays w.drive v.drive h k i sent.AppendLog a said r.0)
+runs_on b pages set w v h k i (sent.ReadPage page) p place a said lawful forward r = same_counter w.facility v.facility h.marks k.marks r.1 (called_stays w.drive v.drive h k i (sent.ReadPage page) a said r.0)
+runs_on b pages set w v h k i (sent.WritePage page) p place a said lawful forward r = same_counter w.facility v.facility h.marks k.marks r.1 (called_stays w.drive v.drive h k i (sent.WritePage page) a said r.0)
 
 -- ---- the memory that is taken, and the begin
 ready_stays : (h ready : Held) (i : Intent) → Reserves i h ready → Stays h.marks ready.marks
 ready_stays h ready (intent.Obtain o n m) e = marks_as h ready (with_spare h ready.marks.locks.spare) e.2 (stays_fewer h.marks (with_spare h ready.marks.locks.spare).marks refl (fewer_same h.marks.trans _ refl refl))
 ready_stays h ready (intent.Grant o n m) e = marks_as h ready (with_spare h ready.marks.locks.spare) e.2 (stays_fewer h.marks (with_spare h ready.marks.locks.spare).marks refl (fewer_same h.marks.trans _ refl refl))
-ready_stays h ready (intent.Change slot action frames) e = marks_as h ready (with_change_room h slot) e (stays_fewer h.marks (with_change_room h slot).marks refl (slot_like h.marks.trans slot (with_room (slot_tran h.marks slot)) refl (λ e. e)))
+ready_stays h ready (intent.Change slot action frames) e = marks_as h ready (with_change_room h slot) e (stays_fewer h.marks (with_change_room h slot).marks refl (slot_like h.marks.trans slot (with_room (slot_tran h.marks slot)) refl (λ e. e) (λ e. e)))
 ready_stays h ready _ e = marks_as h ready h e (stays_itself h.marks)
 
 begun_stays : (h : Held) (place : ℕ) → Stays h.marks (begun h place).marks
 begun_stays h place = stays_fewer h.marks (begun h place).marks refl (fewer_same h.marks.trans _ refl refl)
+
+-- ---- the transaction of a change goes forward as it is sent
+put_there : (ts : List TranState) (slot : ℕ) (x : TranState) → is_forward (slice_index_or ts slot free_tran).stage ≡ true → slice_index_or (slice_set ts slot x) slot free_tran ≡ x
+put_there [] slot x forward = absurd cc
+put_there (t ∷ ts) zero x forward = refl
+put_there (t ∷ ts) (suc slot) x forward = put_there ts slot x forward
+
+pub change_goes : (h ready : Held) (slot place : ℕ) → ready ≡ with_change_room h slot → is_forward (slot_tran h.marks slot).stage ≡ true → is_forward (slot_tran (begun ready place).marks slot).stage ≡ true
+change_goes h ready slot place e goes =
+    ap (λ (z : Held). is_forward (slot_tran z.marks slot).stage) e ∙ (ap (λ (z : TranState). is_forward z.stage) (put_there h.marks.trans.slots slot (with_room (slot_tran h.marks slot)) goes) ∙ goes)
+
+goes_forward : (pages : List (List ℕ)) (set : Setting) (h ready : Held) (i : Intent) (s : Sent) (place : ℕ) → Lawful h.marks pages set i s → Reserves i h ready → GoesForward i (begun ready place).marks
+goes_forward pages set h ready (intent.Change slot action frames) s place lawful e = change_goes h ready slot place e lawful.may.forward
+goes_forward pages set h ready _ s place lawful e = tt
 
 -- ---- the whole event
 abbrev sent_in : Result Prepared Test → Result Sent Test
@@ -239,7 +257,7 @@ module _ (sends : SendsLawfully) (w v : World) (h k : Held) (i : Intent) (place 
   stays_ready = stays_on h.marks happens.ready.marks (begun happens.ready place).marks (ready_stays h happens.ready i happens.reserves) (begun_stays happens.ready place)
 
   pub runs_between : RunsOn w.facility v.facility (begun happens.ready place).marks happens.after.marks
-  runs_between = runs_on h.marks h.pages setting w v (begun happens.ready place) happens.after i s happens.plan place a happens.said sent_lawfully happens.runs
+  runs_between = runs_on h.marks h.pages setting w v (begun happens.ready place) happens.after i s happens.plan place a happens.said sent_lawfully (goes_forward h.pages setting h happens.ready i s place sent_lawfully happens.reserves) happens.runs
 
   pub stays_local : Stays happens.after.marks k.marks
   stays_local = reach_stays happens.after.marks k.marks happens.ends.0

@@ -1,9 +1,11 @@
 -- How many of some transactions have a name, as one of them changes.
-use Rattle.std.proofs.Common.{◌≡◌, ℕ, zero, suc, ◌+◌, ◌≤◌, refl, sym, ◌∙◌, ap, subst, arith, Bool, true, false, List, [], ◌∷◌, ◌++◌}
-use Rattle.std.specs.Prelude.{◌≢◌, ◌==◌, ◌&&◌, remove, replicate, slice_index_or, slice_set}
+use Rattle.std.proofs.Common.{◌≡◌, ℕ, zero, suc, ◌+◌, ◌≤◌, refl, sym, ◌∙◌, ap, arith, Bool, true, false, List, [], ◌∷◌, ◌++◌, Some}
+use Rattle.std.specs.Prelude.{◌≢◌, ◌==◌, ◌&&◌, if◌then◌else◌, is_some, remove, replicate, slice_index_or, slice_set}
 use Rattle.std.proofs.lemmas.Bool.{eq-eqb, ne_eqb}
-use Rattle.member_trans.specs.Trans.{TranState, free_tran, is_forward}
-use Rattle.log_numbers.specs.Numbers.{forward_among, named_among, one_if}
+use Rattle.member_trans.specs.declared.fate.Stage.{Stage}
+use Rattle.member_trans.specs.declared.fate.Stage.TheVariants as stage
+use Rattle.member_trans.specs.Trans.{TranState, all_decided, decided_tran, free_tran, is_forward, is_free, place_in}
+use Rattle.log_numbers.specs.Numbers.{NamesNone, forward_among, named_among, one_if}
 
 -- a number that names none
 pub none_named : (id : ℕ) → id ≢ 0 → one_if (0 == id) ≡ 0
@@ -90,3 +92,53 @@ at_forward (t ∷ ts) zero id goes named =
     let one : one_if (is_forward t.stage && (t.first == id)) ≡ 1 = ap (λ (b : Bool). one_if (b && (t.first == id))) goes ∙ ap one_if (eq-eqb t.first id named) in
     omega (arith, one)
 at_forward (t ∷ ts) (suc slot) id goes named = (let rest = at_forward ts slot id goes named in omega (arith, rest))
+
+-- ---- those that aren't there
+
+-- none of them has a name
+abbrev pub AllNameNone : List TranState → Type 0
+AllNameNone ts = (slot : ℕ) → NamesNone (slice_index_or ts slot free_tran)
+
+pub set_none : (ts : List TranState) (at : ℕ) (x : TranState) → NamesNone x → AllNameNone ts → AllNameNone (slice_set ts at x)
+set_none [] at x none all slot = all slot
+set_none (t ∷ ts) zero x none all zero = none
+set_none (t ∷ ts) zero x none all (suc slot) = all (suc slot)
+set_none (t ∷ ts) (suc at) x none all zero = all zero
+set_none (t ∷ ts) (suc at) x none all (suc slot) = set_none ts at x none (λ k. all (suc k)) slot
+
+pub free_none : (n : ℕ) → AllNameNone (replicate n free_tran)
+free_none zero slot free = refl
+free_none (suc n) zero free = refl
+free_none (suc n) (suc slot) free = free_none n slot free
+
+pub decided_none : (ts : List TranState) (slots : List ℕ) → AllNameNone ts → AllNameNone (all_decided ts slots)
+decided_none ts [] all = all
+decided_none ts (slot ∷ slots) all =
+    let x : TranState = decided_tran (slice_index_or ts slot free_tran) in
+    decided_none (slice_set ts slot x) slots (set_none ts slot x (λ free. absurd cc) all)
+
+-- what goes forward is there
+pub forward_stands : (s : Stage) → is_forward s ≡ true → is_free s ≡ true → ⊥
+forward_stands stage.Free goes free = cc
+forward_stands stage.Forward goes free = cc
+forward_stands stage.Drawn goes free = cc
+forward_stands stage.Decided goes free = cc
+forward_stands stage.Undoing goes free = cc
+forward_stands stage.Postponed goes free = cc
+
+-- where none of them is there, none has this name
+pub none_there : (ts : List TranState) (id : ℕ) → id ≢ 0 → ((slot : ℕ) → is_free (slice_index_or ts slot free_tran).stage ≡ true) → AllNameNone ts → named_among ts id ≡ 0
+none_there [] id some free all = refl
+none_there (t ∷ ts) id some free all =
+    let first : one_if (t.first == id) ≡ 0 = ap (λ (z : ℕ). one_if (z == id)) (all 0 (free 0)) ∙ none_named id some in
+    let rest = none_there ts id some (λ k. free (suc k)) (λ k. all (suc k)) in
+    omega (arith, first, rest)
+
+-- nor where none is found by it
+pub none_placed : (ts : List TranState) (k id : ℕ) → is_some (place_in ts k id) ≡ false → named_among ts id ≡ 0
+none_placed [] k id none = refl
+none_placed (t ∷ ts) k id none = by (t.first == id) (none_placed ts (k + 1) id) none
+  where
+    by : (b : Bool) → (is_some (place_in ts (k + 1) id) ≡ false → named_among ts id ≡ 0) → is_some (if b then Some k else place_in ts (k + 1) id) ≡ false → one_if b + named_among ts id ≡ 0
+    by true rest e = absurd cc
+    by false rest e = (let none = rest e in omega (arith, none))

@@ -1,12 +1,10 @@
 -- The transactions that the records of an event name.
-use Rattle.std.proofs.Common.{◌≡◌, ℕ, zero, suc, ◌+◌, ◌<◌, ◌≤◌, refl, sym, ◌∙◌, ap, subst, arith, Bool, true, false, inl, inr, List, [], ◌∷◌, length, Option, Some, None}
-use Rattle.std.specs.Prelude.{◌≢◌, ◌⊎◌, ◌==◌, ◌&&◌, ◌||◌, not, nat_le, nat_lt, if◌then◌else◌, slice_index_or, slice_set}
+use Rattle.std.proofs.Common.{◌≡◌, ℕ, ◌+◌, ◌<◌, ◌≤◌, refl, sym, ◌∙◌, ap, subst, arith, Bool, true, false, inl, inr, List, [], ◌∷◌, length, Option, Some, None}
+use Rattle.std.specs.Prelude.{◌≢◌, ◌⊎◌, ◌==◌, ◌&&◌, ◌||◌, not, nat_le, nat_lt, if◌then◌else◌, slice_set}
 use Rattle.std.specs.List.{AllByRecursion}
 use Rattle.std.proofs.lemmas.Bool.{and_parts, cond_both, eq-eqb, eqb-true, leb-false, leb-true, or_cases}
-use Rattle.ds_model.specs.declared.log.Body.TheVariants as body
 use Rattle.ds_model.specs.declared.log.LogRecord.{LogRecord}
 use Rattle.ds_model.specs.Rows.{Spot}
-use Rattle.page_format.specs.declared.patch.Patch.{Patch}
 use Rattle.facility.specs.Commands.{Executes, cells_for}
 use Rattle.facility.specs.Counting.{counter_after, draw_reply, drawn as drawn_reply, drawn_to, first_stale, given, limit}
 use Rattle.facility.specs.States.{Held as Facility}
@@ -31,31 +29,31 @@ use Rattle.member_trans.specs.declared.fate.Owner.TheVariants as owner
 use Rattle.member_trans.specs.declared.fate.Stage.{Stage}
 use Rattle.member_trans.specs.declared.fate.Stage.TheVariants as stage
 use Rattle.member_trans.specs.Lists.{pushed}
-use Rattle.member_trans.specs.Trans.{TransState, TranState, after_draw, drawn, first_with, free_tran, is_forward, is_undoing, newest_of, tran_at, tran_of as tran_in, with_room}
-use Rattle.member_marks.specs.Records.{after_commit, back_record, both_fit, commit_record, ended_record, fits_in, is_at_row, may_back, may_commit, row_record}
+use Rattle.member_trans.specs.Trans.{TransState, TranState, after_draw, drawn, first_with, is_forward, is_undoing, newest_of, tran_at, tran_of as tran_in}
+use Rattle.member_marks.specs.Records.{back_record, both_fit, commit_record, ended_record, fits_in, is_at_row, may_back, may_commit, row_record}
 use Rattle.member_marks.specs.State.{MarksState, slot_tran, tran_of}
 use Rattle.member_needs.specs.declared.plans.Plan.{Plan}
 use Rattle.member_needs.specs.declared.plans.Plan.TheVariants as plan
 use Rattle.member_needs.specs.declared.needs.Setting.{Setting}
 use Rattle.member_needs.specs.Records.{indexes_of}
 use Rattle.member_effects.specs.Changes.{committed_after, system_record}
-use Rattle.member_effects.specs.Puts.{back_records, both_if, change_records, commit_records, drawn_by, event_records, one_if as records_if, reply_records, undo_records}
+use Rattle.member_effects.specs.Puts.{back_records, both_if, change_records, event_records, one_if as records_if, reply_records, undo_records}
 use Rattle.member_effects.specs.declared.told.Told.{Told}
 use Rattle.ds_disk.specs.declared.disk.DiskError.{DiskError}
 use Rattle.ds_disk.specs.declared.disk.DiskError.TheVariants as disk_error
 use Rattle.std.proofs.Common.{Result, Ok, Err}
-use Rattle.member_resources.specs.Events.{Happens, Runs, RunsCall, RunsCommand, Stores, World}
+use Rattle.member_resources.specs.Events.{Runs, RunsCommand, Stores, World}
 use Rattle.member_resources.specs.Held.{Held, begun}
 use Rattle.member_resources.specs.Lending.{lent_of}
-use Rattle.member_resources.specs.Prepared.{Reserves, with_change_room}
+use Rattle.member_resources.specs.Prepared.{Reserves}
 use Rattle.needs_law.specs.Lawful.{Lawful, SendsLawfully}
 use Rattle.log_numbers.specs.Numbers.{AreCounted, RecordsAreNamed, RecordsName, forward_among, forward_in, named_in, one_if}
 use Rattle.log_numbers.proofs.Apart.{rollback_named, slot_named}
 use Rattle.log_numbers.proofs.Effects.{DrawsBy}
-use Rattle.log_numbers.proofs.Events.{lent_same, same_command, sent_lawfully, setting, settled_go, stays_local, stays_ready}
-use Rattle.log_numbers.proofs.Lists.{apart_named, at_forward, forward_named, none_named, set_forward}
+use Rattle.log_numbers.proofs.Events.{change_goes, lent_same, same_command, sent_lawfully, setting, settled_go, stays_local, stays_ready}
+use Rattle.log_numbers.proofs.Lists.{apart_named, at_forward, forward_named, set_forward}
 use Rattle.log_numbers.proofs.Records.{draw_fewer}
-use Rattle.log_numbers.proofs.Stays.{Draws, Stays}
+use Rattle.log_numbers.proofs.Stays.{Stays}
 
 never : false ≡ true → ⊥
 never e = cc
@@ -340,16 +338,6 @@ commit_names c d s t slot p (reply.Drawn n) place k next goes e = record {
 }
 commit_names c d s t slot p _ place k next goes e = names_none c d s t
 
--- ---- what is there as it is sent
-put_there : (ts : List TranState) (slot : ℕ) (x : TranState) → is_forward (slice_index_or ts slot free_tran).stage ≡ true → slice_index_or (slice_set ts slot x) slot free_tran ≡ x
-put_there [] slot x forward = absurd cc
-put_there (t ∷ ts) zero x forward = refl
-put_there (t ∷ ts) (suc slot) x forward = put_there ts slot x forward
-
-change_goes : (h ready : Held) (slot place : ℕ) → ready ≡ with_change_room h slot → is_forward (slot_tran h.marks slot).stage ≡ true → is_forward (slot_tran (begun ready place).marks slot).stage ≡ true
-change_goes h ready slot place e goes =
-    ap (λ (z : Held). is_forward (slot_tran z.marks slot).stage) e ∙ (ap (λ (z : TranState). is_forward z.stage) (put_there h.marks.trans.slots slot (with_room (slot_tran h.marks slot)) goes) ∙ goes)
-
 -- ---- a command
 command_names : (pages : List (List ℕ)) (set : Setting) (w v : Facility) (h ready k : Held) (i : Intent) (c : Command) (p : Plan) (place : ℕ) (a : Answered) (said : Told)
     → Lawful h.marks pages set i (sent.Command c) → Reserves i h ready → (r : RunsCommand w (begun ready place) i c p place a said v k) → AreCounted w.counter (begun ready place).marks
@@ -363,7 +351,7 @@ command_names pages set w v h ready k (intent.Undo o at) c p place a said lawful
     (undo_of w v (begun ready place).marks.member c (record { count = 1; at = at ∷ 0 ∷ 0 ∷ [] }) _ _ r.answer lawful.is r.gives.executed.executes)
     (ap (λ (z : Held). is_undoing (tran_of z.marks o).stage) e ∙ lawful.undoing)
     (subst (λ (z : MarksState). DrawsBy r.answer z k.marks) (lent_same (begun ready place) r.after (lent_of (begun ready place) c) _ r.gives.executed.back)
-    (settled_go r.after k (intent.Undo o at) p v.lists.waits r.answer (cells_for v.lists.cells r.after.marks.member c) place said r.settles))
+    (settled_go r.after k (intent.Undo o at) p v.lists.waits r.answer (cells_for v.lists.cells r.after.marks.member c) place said tt r.settles))
 command_names pages set w v h ready k (intent.Commit slot) c p place a said lawful e r counted =
     commit_names w.counter v.counter (begun ready place).marks k.marks slot p r.answer place counted
     (draw_of w v (begun ready place).marks.member c (record { count = 0; at = 0 ∷ 0 ∷ 0 ∷ [] }) _ _ r.answer lawful.is r.gives.executed.executes)

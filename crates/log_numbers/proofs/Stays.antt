@@ -1,6 +1,6 @@
 -- What leaves a member's numbers below the counter, and apart.
-use Rattle.std.proofs.Common.{◌≡◌, ℕ, ◌+◌, ◌<◌, ◌≤◌, refl, sym, ◌∙◌, ap, subst, arith, Bool, true, false, inl, inr, List}
-use Rattle.std.specs.Prelude.{◌≢◌, ◌⊎◌, ◌==◌, if◌then◌else◌}
+use Rattle.std.proofs.Common.{◌≡◌, ℕ, ◌+◌, ◌<◌, ◌≤◌, refl, sym, ap, subst, arith, Bool, true, false, List}
+use Rattle.std.specs.Prelude.{◌≢◌, ◌==◌, if◌then◌else◌}
 use Rattle.std.proofs.lemmas.Bool.{cond_both, eqb-true, ne_eqb}
 use Rattle.lock_manager.specs.Managers.{Book}
 use Rattle.member_log.specs.Buffers.{LogBuffer}
@@ -9,7 +9,7 @@ use Rattle.member_trans.specs.Trans.{TranState, TransState}
 use Rattle.member_marks.specs.Names.{NameSet}
 use Rattle.member_marks.specs.State.{MarksState, with_heads, with_kept, with_locks, with_trans}
 use Rattle.log_numbers.specs.Numbers.{AreCounted, CountedMore, forward_among, forward_in, named_among, named_in, one_if}
-use Rattle.log_numbers.proofs.Lists.{none_named}
+use Rattle.log_numbers.proofs.Lists.{AllNameNone}
 
 -- ---- no number more, and none that goes forward
 pub record Stays (s t : MarksState) : Type 0 where
@@ -19,6 +19,7 @@ pub record Stays (s t : MarksState) : Type 0 where
 pub record Fewer (s t : TransState) : Type 0 where
   pub named : (id : ℕ) → id ≢ 0 → named_in t id ≤ named_in s id
   pub forward : (id : ℕ) → id ≢ 0 → forward_in t id ≤ forward_in s id
+  pub free : AllNameNone s.slots → AllNameNone t.slots
 
 pub above_some : (c id : ℕ) → c < id → id ≢ 0
 above_some c id h e = absurd (let q = e in omega (arith, h, q))
@@ -39,19 +40,21 @@ pub fewer_if : (s x y : TransState) (b : Bool) → Fewer s x → Fewer s y → F
 fewer_if s x y b p q = cond_both b x y (λ z. Fewer s z) (λ e. p) (λ e. q)
 
 pub fewer_itself : (s : TransState) → Fewer s s
-fewer_itself s = record { named = λ id some. omega arith; forward = λ id some. omega arith }
+fewer_itself s = record { named = λ id some. omega arith; forward = λ id some. omega arith; free = λ all. all }
 
 -- where its lists stay
 pub fewer_same : (s t : TransState) → t.slots ≡ s.slots → t.rollbacks ≡ s.rollbacks → Fewer s t
 fewer_same s t slots rollbacks = record {
   named = λ id some. (let a = ap (λ (z : List TranState). named_among z id) slots in let b = ap (λ (z : List TranState). named_among z id) rollbacks in omega (arith, a, b));
   forward = λ id some. (let a = ap (λ (z : List TranState). forward_among z id) slots in omega (arith, a));
+  free = subst AllNameNone (sym slots);
 }
 
 pub fewer_on : (s t u : TransState) → Fewer s t → Fewer t u → Fewer s u
 fewer_on s t u a b = record {
   named = λ id some. (let p = a.named id some in let q = b.named id some in omega (arith, p, q));
   forward = λ id some. (let p = a.forward id some in let q = b.forward id some in omega (arith, p, q));
+  free = λ all. b.free (a.free all);
 }
 
 pub none_more : (s t : TransState) (id : ℕ) → Fewer s t → id ≢ 0 → named_in s id ≡ 0 → named_in t id ≡ 0
@@ -68,6 +71,7 @@ stays_fewer s t log few = record {
     stable = subst (λ (z : LogBuffer). z.stable ≤ c) (sym log) k.stable;
     below = λ id above. none_more s.trans t.trans id few (above_some c id above) (k.below id above);
     once = λ id some. one_more s.trans t.trans id few some (k.once id some);
+    free = few.free k.free;
   };
   forward = few.forward;
 }
@@ -95,6 +99,7 @@ counted_more c d s le k = record {
   stable = (let p = k.stable in omega (arith, p, le));
   below = λ id above. k.below id (omega (arith, le, above));
   once = k.once;
+  free = k.free;
 }
 
 -- ---- the next number is drawn, and put
@@ -121,9 +126,10 @@ draws_if n s x y b p q = cond_both b x y (λ z. Draws n s z) p (λ e. q)
 pub record OneMore (n : ℕ) (s t : TransState) : Type 0 where
   pub named : (id : ℕ) → id ≢ 0 → named_in t id ≤ named_in s id + one_if (n == id)
   pub forward : (id : ℕ) → id ≢ 0 → id ≢ n → forward_in t id ≤ forward_in s id
+  pub free : AllNameNone s.slots → AllNameNone t.slots
 
 pub fewer_one : (n : ℕ) (s t : TransState) → Fewer s t → OneMore n s t
-fewer_one n s t few = record { named = λ id some. (let p = few.named id some in omega (arith, p)); forward = λ id some other. few.forward id some }
+fewer_one n s t few = record { named = λ id some. (let p = few.named id some in omega (arith, p)); forward = λ id some other. few.forward id some; free = few.free }
 
 other_named : (n id : ℕ) → n < id → one_if (n == id) ≡ 0
 other_named n id above = ap one_if (ne_eqb n id (λ e. absurd (let q = e in omega (arith, above, q))))
@@ -155,6 +161,7 @@ draws_put n s t last stable more = record {
         let other = other_named n id above in
         omega (arith, p, none, other);
     once = λ id some. once_named n c id s.trans t.trans more next some k.below (k.once id some) (n == id) refl;
+    free = more.free k.free;
   };
   forward = more.forward;
 }

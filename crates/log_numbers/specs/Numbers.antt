@@ -16,7 +16,7 @@ use Rattle.member_intents.specs.declared.outcome.Sent.{Sent}
 use Rattle.member_trans.specs.declared.fate.Change.{Change}
 use Rattle.member_trans.specs.declared.fate.Owner.{Owner}
 use Rattle.member_trans.specs.declared.fate.Owner.TheVariants as owner
-use Rattle.member_trans.specs.Trans.{TransState, TranState, is_forward, is_undoing}
+use Rattle.member_trans.specs.Trans.{TransState, TranState, is_forward, is_free, is_undoing, tran_at}
 use Rattle.member_marks.specs.Local.{Reaches}
 use Rattle.member_marks.specs.Rollbacks.{after_adopt}
 use Rattle.member_marks.specs.State.{MarksState, tran_of}
@@ -38,12 +38,18 @@ named_among (t ∷ ts) id = one_if (t.first == id) + named_among ts id
 abbrev pub named_in : TransState → ℕ → ℕ
 named_in t id = named_among t.slots id + named_among t.rollbacks id
 
--- No number in the log, on disk or in the buffer, is above the counter, and none that names a transaction; and no number names two.
+-- one that isn't there has no name
+abbrev pub NamesNone : TranState → Type 0
+NamesNone t = is_free t.stage ≡ true → t.first ≡ 0
+
+-- No number in the log, on disk or in the buffer, is above the counter, and none that names a transaction; no number names two; and a slot without a
+-- transaction has no name.
 pub record AreCounted (counter : ℕ) (s : MarksState) : Type 0 where
   pub last : s.log.last ≤ counter
   pub stable : s.log.stable ≤ counter
   pub below : (id : ℕ) → counter < id → named_in s.trans id ≡ 0
   pub once : (id : ℕ) → id ≢ 0 → named_in s.trans id ≤ 1
+  pub free : (slot : ℕ) → NamesNone (tran_at s.trans slot)
 
 -- ---- so it is of a member that holds nothing, and no event of it changes that; nor does the counter fall
 
@@ -58,16 +64,20 @@ abbrev pub CountedStay : Type 0
 CountedStay = (w v : World) (h k : Held) (i : Intent) (place : ℕ) (sent : Sent) (a : Answered)
     → Happens w h i place sent a v k → AreCounted w.facility.counter h.marks → StillCounted w.facility v.facility k.marks
 
--- nor do local moves, numbers that others draw, and a rollback that is adopted by a number which names none
+-- nor do local moves, and numbers that others draw
 abbrev pub CountedReach : Type 0
 CountedReach = (counter : ℕ) (s t : MarksState) → Reaches s t → AreCounted counter s → AreCounted counter t
 
 abbrev pub CountedMore : Type 0
 CountedMore = (counter more : ℕ) (s : MarksState) → counter ≤ more → AreCounted counter s → AreCounted more s
 
+-- nor does a rollback that is adopted by a number at or below the counter, where no slot has a transaction
+abbrev pub SlotsAreFree : MarksState → Type 0
+SlotsAreFree s = (slot : ℕ) → is_free (tran_at s.trans slot).stage ≡ true
+
 abbrev pub CountedAdopt : Type 0
 CountedAdopt = (counter : ℕ) (s : MarksState) (id by : ℕ) (changes : List Change) (undone : List RowChange)
-    → id ≤ counter → named_in s.trans id ≡ 0 → AreCounted counter s → AreCounted counter (after_adopt s id by changes undone)
+    → id ≤ counter → SlotsAreFree s → AreCounted counter s → AreCounted counter (after_adopt s id by changes undone)
 
 -- ---- no command of any member lets the counter fall
 

@@ -14,6 +14,7 @@ returns c =
         leave = c.rests_tell.ensures.leave;
       };
       courses = record { steps = c.courses_go.ensures.steps; hands = c.courses_go.ensures.hands; ends = c.courses_go.ensures.ends; below = c.courses_go.ensures.below };
+      counts = record { adopt = c.numbers_stay.ensures.adopted; reach = c.numbers_stay.ensures.local; more = c.numbers_stay.ensures.more };
       locked = c.logs_stay_locked.ensures.local;
       tell = c.courses_go.ensures.tell;
       lists = c.lists_go.ensures;
