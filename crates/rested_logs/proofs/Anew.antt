@@ -9,9 +9,7 @@ use Rattle.disk_restart.specs.Ends.{EndsBehind}
 use Rattle.restart_soundness.specs.Closing.{ClosesAll, RestsClose, RestsClosed}
 use Rattle.restart_soundness.specs.Left_out.{LeavesOutClosed}
 use Rattle.restart_soundness.specs.Runs.{IsLeft}
-use Rattle.group_core.specs.Given.{CrewState}
-use Rattle.group_logs.specs.Known.{AnewKnow}
-use Rattle.failed_logs.specs.Given.{IsDown, Member}
+use Rattle.claimed_logs.specs.Given.{AnewKnow, CrewState, IsDown, Member}
 use Rattle.claimed_logs.specs.Logs.{FreshLogged, LogCloses}
 use Rattle.rested_logs.specs.Rests.{ClosingCloses, EmptyCloses, GroupsStandAnew, RestsLogged, StandsAnew}
 use Rattle.rested_logs.proofs.Closed.{last_is}

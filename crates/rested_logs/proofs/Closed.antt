@@ -33,8 +33,7 @@ use Rattle.read_plans.specs.Ends.{IsLeftOut}
 use Rattle.restart_soundness.specs.Left_out as out
 use Rattle.restart_soundness.specs.Left_out.{LeavesOutClosed}
 use Rattle.lock_protocol.specs.Machine.{World}
-use Rattle.group_core.specs.Given.{CrewState}
-use Rattle.failed_logs.specs.Given.{LocksTied, Member}
+use Rattle.claimed_logs.specs.Given.{CrewState, LocksTied, Member}
 use Rattle.claimed_logs.specs.Commits.{changes_for, changes_row, commits_last}
 use Rattle.claimed_logs.specs.Courses.{LeavesAlike}
 use Rattle.claimed_logs.specs.Logs.{ClosingLeaves, LogCloses, LogsClaimed, LogsLeave}
@@ -94,14 +93,14 @@ front_all : (P : LogRecord → Type 0) (xs ys : List LogRecord) → AllByRecursi
 front_all P [] ys h = tt
 front_all P (x ∷ xs) ys h = (h.0, front_all P xs ys h.1)
 
-back_all : (P : LogRecord → Type 0) (xs ys : List LogRecord) → AllByRecursion P (xs ++ ys) → AllByRecursion P ys
+pub back_all : (P : LogRecord → Type 0) (xs ys : List LogRecord) → AllByRecursion P (xs ++ ys) → AllByRecursion P ys
 back_all P [] ys h = h
 back_all P (x ∷ xs) ys h = back_all P xs ys h.1
 
-whole_log : (records : List LogRecord) → AllByRecursion IsAllowed records → IsLog (log_bytes records) records
+pub whole_log : (records : List LogRecord) → AllByRecursion IsAllowed records → IsLog (log_bytes records) records
 whole_log records allowed = record { tail = []; whole = sym (append-nil (log_bytes records)); allowed = allowed; torn = inl refl }
 
-same_records : (x : Result Parts ℕ) (p q : Parts) → x ≡ Ok p → x ≡ Ok q → p.records ≡ q.records
+pub same_records : (x : Result Parts ℕ) (p q : Parts) → x ≡ Ok p → x ≡ Ok q → p.records ≡ q.records
 same_records x p q a b =
     let both : Ok p ≡ Ok q = sym a ∙ b in
     let same : p ≡ q = cc in

@@ -4,9 +4,7 @@ use Rattle.std.specs.Prelude.{◌≢◌, ◌⊎◌, ◌%◌, slice_get}
 use Rattle.std.proofs.lemmas.Bool.{cases_eq}
 use Rattle.ds_disk.specs.Contents.{Becomes, Contents, log_of}
 use Rattle.cache_structure.specs.Directory.{Directory}
-use Rattle.group_core.specs.Given.{CrewState, crew_state}
-use Rattle.group_logs.specs.Changes.{LogsChangeBy, LogsGo, MemberLogs}
-use Rattle.failed_logs.specs.Given.{Member}
+use Rattle.claimed_logs.specs.Given.{CrewState, LogsChangeBy, LogsGo, Member, MemberLogs, crew_state}
 use Rattle.claimed_logs.specs.Logs.{LogCloses}
 use Rattle.rested_logs.specs.Others.{OthersStay}
 use Rattle.rested_logs.specs.Rests.{OthersClose}
@@ -33,7 +31,7 @@ member_others c d s number (Some m) ne is goes others = λ at none. subst LogClo
         let here : number - 1 ≡ at = omega (arith, e) in
         none_some (slice_get s.members (number - 1)) m is (ap (slice_get s.members) here ∙ none)
 
-changed_others : (c d : Contents) (s : CrewState) (event : ℕ) → LogsChangeBy event s c d → OthersClose c s → OthersClose d s
+pub changed_others : (c d : Contents) (s : CrewState) (event : ℕ) → LogsChangeBy event s c d → OthersClose c s → OthersClose d s
 changed_others c d s event changes others = elim (cases_eq (event % 64) 0) [
   | inl own ↦ same_others c d s (changes.group own) others
   | inr member ↦ member_others c d s (event % 64) (slice_get s.members (event % 64 - 1)) member refl (changes.member member) others

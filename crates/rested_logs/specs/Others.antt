@@ -2,11 +2,8 @@
 use Rattle.std.specs.Prelude.{◌≡◌, ◌≢◌, ℕ, Bool, Option, Some}
 use Rattle.ds_disk.specs.Contents.{Contents}
 use Rattle.cache_structure.specs.Directory.{Directory}
-use Rattle.group_core.specs.Given.{crew_state}
-use Rattle.group_core.specs.declared.fault.RunFault.TheVariants as fault
-use Rattle.group_core.specs.declared.group.Group.{Group}
-use Rattle.group_core.specs.Takes.{Takes}
-use Rattle.group_logs.specs.Changes.{AreNumbered}
+use Rattle.claimed_logs.specs.Given.{AreNumbered, Group, Takes, crew_state}
+use Rattle.claimed_logs.specs.Given.fault_variants as fault
 use Rattle.rested_logs.specs.Rests.{OthersClose}
 
 -- an event that isn't refused, and no call of a group restart, leaves them as they were

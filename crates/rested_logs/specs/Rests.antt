@@ -10,8 +10,7 @@ use Rattle.restart_soundness.specs.Closing.{ClosesAll}
 use Rattle.restart_soundness.specs.Left_out.{LeavesOutClosed}
 use Rattle.restart_soundness.specs.Runs.{IsLeft}
 use Rattle.lock_protocol.specs.Machine.{World}
-use Rattle.group_core.specs.Given.{BeginsAnew, CrewState}
-use Rattle.failed_logs.specs.Given.{LocksTied}
+use Rattle.claimed_logs.specs.Given.{BeginsAnew, CrewState, LocksTied}
 use Rattle.claimed_logs.specs.Courses.{LeavesAlike}
 use Rattle.claimed_logs.specs.Logs.{LogBelow, LogCloses, LogsClaimed}
 use Rattle.claimed_logs.specs.Taken.{LogsStand}
