@@ -18,6 +18,7 @@ use Rattle.group_core.specs.Ends.{Ends}
 use Rattle.group_core.specs.Goes.{Goes}
 use Rattle.group_core.specs.Runs.{Draws, RunsOn}
 use Rattle.group_core.specs.Fresh.{RunsFresh, RunsFrom}
+use Rattle.group_core.specs.Starts.{IsFresh}
 use Rattle.group_threads.proofs.Looked.{runs_plain}
 use Rattle.refusal_causes.specs.Answers.{AnswersGiven}
 use Rattle.refusal_causes.specs.Laws.{CausesHeld, is_lawful}
@@ -26,7 +27,7 @@ use Rattle.checked_run.specs.declared.account.Account.{Account}
 use Rattle.checked_run.specs.declared.ended.Ended.{Ended}
 use Rattle.checked_run.specs.declared.ended.Ended.TheVariants as ended
 use Rattle.checked_run.specs.Accounts.{account_of}
-use Rattle.checked_run.specs.Leading.{Begins, LeadsFrom, RunsBy, Came, ComesTo}
+use Rattle.checked_run.specs.Leading.{Begins, IsCounted, LeadsFrom, OpensOver, RunsBy, Came, ComesTo}
 
 -- a list in memory has fewer elements than an index can count
 short : (v : Vec ℕ Global) → length v.items < 18446744073709551615
@@ -101,8 +102,33 @@ pub answered : (end : Result RunEnd NoMemory) (L : RunEnd → Option RunFault �
 answered (Ok e) L S out came wanting = inr (came e refl)
 answered (Err none) L S out came wanting = inl (wanting refl)
 
--- a group that has just started, and keeps the lines of a trace from now on
+-- ---- a group that has just started
+
+-- the same group, of which it is known that its members are counted
+pub begins_counted : {C D P : Type 0} (directory : C → Directory) (script : Script) (old new : Group D C P) → new ≡ old → old.crew.script ≡ script → IsFresh directory old → old.journal.items ≡ [] → old.faults.items ≡ [] → old.fault ≡ None
+    → IsCounted new → Begins directory script new
+begins_counted {C} {D} {P} directory script old new same is fresh journal faults fault counted = record {
+  script_is = ap (λ (z : Group D C P). z.crew.script) same ∙ is;
+  fresh = subst (λ (z : Group D C P). IsFresh directory z) (sym same) fresh;
+  journal = ap (λ (z : Group D C P). z.journal.items) same ∙ journal;
+  faults = ap (λ (z : Group D C P). z.faults.items) same ∙ faults;
+  fault = ap (λ (z : Group D C P). z.fault) same ∙ fault;
+  counted = counted;
+}
+
+-- it keeps the lines of a trace from now on
 pub begins_traced : {C D P : Type 0} (directory : C → Directory) (script : Script) (old new : Group D C P) → new ≡ record old { lines = new.lines } → Begins directory script old → Begins directory script new
 begins_traced {C} {D} {P} directory script old new same begins =
     subst (λ (group : Group D C P). Begins directory script group) (sym same)
-    (record { script_is = begins.script_is; fresh = begins.fresh; journal = begins.journal; faults = begins.faults; fault = begins.fault })
+    (record {
+      script_is = begins.script_is;
+      fresh = begins.fresh;
+      journal = begins.journal;
+      faults = begins.faults;
+      fault = begins.fault;
+      counted = record { members = begins.counted.members; few = begins.counted.few; agents = begins.counted.agents };
+    })
+
+pub opens_traced : {C D P : Type 0} (alive : D → Bool) (contents : D → Option Contents) (opened : D) (old new : Group D C P) → new ≡ record old { lines = new.lines } → OpensOver alive contents opened old → OpensOver alive contents opened new
+opens_traced {C} {D} {P} alive contents opened old new same opens =
+    subst (λ (group : Group D C P). OpensOver alive contents opened group) (sym same) (record { restarts = opens.restarts; known = opens.known })

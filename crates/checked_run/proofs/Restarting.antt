@@ -1,13 +1,15 @@
 -- A disk to which nothing but group restarts has written.
-use Rattle.std.proofs.Common.{◌≡◌, inl, inr, ℕ, Bool, List, [], ◌∷◌, Option, Some, None, Result, Ok, Err, refl, subst, ◌∙◌}
+use Rattle.std.proofs.Common.{◌≡◌, inl, inr, ℕ, Bool, List, [], ◌∷◌, Option, Some, None, Result, Ok, Err, IfErr, refl, sym, subst, ◌∙◌}
+use Rattle.std.specs.Result.{IsErrAnd}
 use Rattle.ds_base.specs.declared.fault.NoMemory.{NoMemory}
 use Rattle.ds_base.specs.declared.names.Volume.{Volume}
 use Rattle.ds_base.specs.declared.names.Volume.TheVariants as volume
 use Rattle.ds_base.specs.declared.row.Row.{Row}
 use Rattle.ds_disk.specs.Contents.{Contents, WhenTold, Becomes, Same}
 use Rattle.group_core.specs.declared.fault.RunFault.{RunFault}
+use Rattle.group_core.specs.declared.fault.StartFault.{StartFault}
 use Rattle.group_core.specs.declared.fault.RunFault.TheVariants as fault
-use Rattle.group_core.specs.Starts.{IsOpened, IsUnopened, State, StopsBy}
+use Rattle.group_core.specs.Starts.{IsOpened, IsOpenedTo, IsUnopened, State, StopsBy}
 use Rattle.group_core.specs.Starts.state as state
 use Rattle.opening_rows.specs.Reading.{BreaksAt}
 use Rattle.opening_rows.specs.declared.fault.LogsFault.{LogsFault}
@@ -38,6 +40,15 @@ module _ {D : Type 0} (alive : D → Bool) (contents : D → Option Contents) wh
   -- memory was wanting for it
   pub wanting : (old : D) (e : NoMemory) → IsUnopened alive contents old fault.NoMemory old
   wanting old e = record { came = Err e; run = inr (refl, tt); stops = tt }
+
+  -- or the group that was started wasn't taken
+  pub untaken : (old new : D) (counter : ℕ) → IsOpenedTo alive contents old counter new → IsUnopened alive contents old fault.NoMemory new
+  untaken old new counter run = record { came = Ok (state.Done counter); run = run; stops = tt }
+
+  pub untaken_by : {A : Type 0} (old new : D) (counter : ℕ) (f : StartFault D) (result : Result A (StartFault D)) → IsErrAnd result (λ (x : StartFault D). x ≡ f) → f ≡ record { disk = new; why = fault.NoMemory }
+      → IsOpenedTo alive contents old counter new → IfErr result (λ (x : StartFault D). IsUnopened alive contents old x.why x.disk)
+  untaken_by {A} old new counter f (Ok a) is left run = tt
+  untaken_by {A} old new counter f (Err x) is left run = subst (λ (z : StartFault D). IsUnopened alive contents old z.why z.disk) (sym (is ∙ left)) (untaken old new counter run)
 
   run_once : (old new : D) (came : Result State NoMemory) → Restarts alive contents old came new → AreRun alive contents old (came ∷ []) new
   run_once old new came run = (old, (new, (same_self (contents old), (run, same_self (contents new)))))

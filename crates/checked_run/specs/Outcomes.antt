@@ -53,7 +53,7 @@ pub record Plays (kind : Kind) (script : Script) (seed : Option ℕ) (traced : B
   pub opening : Opening
   pub opens : WhenTold was (λ c. OpensAs c opening)
   pub rows_are : opening.rows ≡ rows
-  pub comes : ComesTo (kind.leads script seed account) (Settles kind.tells script traced opening before now after account) ended
+  pub comes : ComesTo (kind.leads was script seed account) (Settles kind.tells script traced opening before now after account) ended
 
 -- the rows were shown, and where a call of the closing group restart failed, the disk counted it
 pub record ShowsRows (before now : ℕ) (rows : List Row) (report : Report) : Type 0 where

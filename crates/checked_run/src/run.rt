@@ -1,4 +1,4 @@
-ghost use Rattle.std.specs.Prelude.{◌≡◌, ◌≢◌, ◌≤◌, Ok, IfOk, OnOk, IfErr};
+ghost use Rattle.std.specs.Prelude.{◌≡◌, ◌≢◌, ◌≤◌, true, Ok, IfOk, OnOk, IfErr};
 ghost use Rattle.cache_structure.specs.State.{directory_of};
 ghost use Rattle.ds_disk.specs.Contents.{Becomes};
 ghost use Rattle.ds_model.specs.Rows.{AreSorted};
@@ -6,8 +6,8 @@ ghost use Rattle.disk_restart.specs.Keeping.{KeepsRecords};
 ghost use Rattle.group_core.specs.declared.fault.RunFault.TheVariants as fault;
 ghost use Rattle.group_core.specs.declared.schedule.RunEnd.TheVariants as ends;
 ghost use Rattle.group_core.specs.Ends.{Ends};
-ghost use Rattle.group_core.specs.Starts.{IsOpened, IsUnopened};
-ghost use Rattle.checked_run.specs.Leading.{Begins, ComesTo, Leads, LeadsFrom, RunsBy, kind_of};
+ghost use Rattle.group_core.specs.Starts.{IsUnopened};
+ghost use Rattle.checked_run.specs.Leading.{Begins, ComesTo, IsCounted, Leads, LeadsFrom, OpensOver, RunsBy, kind_of};
 ghost use Rattle.checked_run.specs.Outcomes.{Comes, ComesFrom, HasCause, IsLeft, Plays};
 ghost use Rattle.checked_run.specs.Restarted.{IfUnopened, IsLeftByRestarts, IsRestarted, TellsDamageOf};
 ghost use Rattle.checked_run.specs.Settled.{Settles};
@@ -41,6 +41,27 @@ fn no_memory<D>(disk: D) -> StartFault<D>
     }
 }
 
+// Whether the group has as many members as its sizes say, and those are no more than may be.
+fn is_counted<D, P>(group: &Group<D, Cache, P>) -> bool
+    ensures { result ≡ true → IsCounted group.now }
+{
+    let sizes = group.crew.sizes.sizes;
+    group.crew.parts.len() == sizes.members as usize && sizes.members <= 32 && sizes.agents <= 16
+}
+
+// The group that was started over a disk, if it has all its members. A start makes no other, so memory isn't wanting here.
+fn counted<D, P: Drop>(group: Group<D, Cache, P>) -> Result<Group<D, Cache, P>, StartFault<D>>
+    ensures same { IfOk result (λ it. it ≡ group) }
+    ensures counted { IfOk result IsCounted }
+    ensures left { IfErr result (λ f. f ≡ record { disk = group.disk; why = fault.NoMemory }) }
+{
+    if is_counted(&group) {
+        return Ok(group);
+    }
+    let Group { disk, .. } = group;
+    Err(no_memory(disk))
+}
+
 // A group that is to play a script. Its start runs the opening group restart.
 fn begin<D: Disk, P: Policy + Drop>(
     alloc: Global,
@@ -53,7 +74,7 @@ fn begin<D: Disk, P: Policy + Drop>(
     requires { (1 ≤ sizes.now.locks) × (1 ≤ sizes.now.pool) }
     ensures later { IfOk result (λ group. D.faults disk ≤ D.faults group.disk) }
     ensures begins { IfOk result (Begins directory_of script.now) }
-    ensures opens { IfOk result (λ group. IsOpened D.alive D.contents disk group.disk) }
+    ensures opens { IfOk result (OpensOver D.alive D.contents disk) }
     ensures left { IfErr result (λ f. D.faults disk ≤ D.faults f.disk) }
     ensures keeps { IfErr result (λ f. Becomes (D.contents disk) (D.contents f.disk) KeepsRecords) }
     ensures unopened { IfErr result (λ f. IsUnopened D.alive D.contents disk f.why f.disk) }
@@ -66,7 +87,8 @@ fn begin<D: Disk, P: Policy + Drop>(
     let Ok(script) = copy_script(alloc, script) else {
         return Err(no_memory(disk));
     };
-    let mut group = Group::start(alloc, disk, cache, sizes, script, members)?;
+    let started = Group::start(alloc, disk, cache, sizes, script, members)?;
+    let mut group = counted(started)?;
     if is_traced {
         group.trace(alloc);
     }
@@ -152,7 +174,7 @@ fn play_from<
     requires in_order { AreSorted opening.rows }
     ensures comes { ComesFrom opening.rows (D.faults disk) (D.faults result.disk) result.account
         (λ _. ComesTo
-        (Leads P D.alive D.contents D.faults script.now seed result.account)
+        (Leads P D.alive D.contents D.faults (D.contents disk) script.now seed result.account)
         (Settles (TellsAlways D.contents) script.now is_traced opening (D.faults disk) (D.faults result.disk) (D.contents result.disk) result.account))
         result.outcome }
     ensures left { IsLeft result.outcome (D.contents disk) (D.contents result.disk) }
@@ -188,7 +210,8 @@ fn play_from<
 /// Where a call of the disk has failed the logs may not be read back: then the report is held against script and rows alone. It is
 /// told so only where two calls have failed: where the first is one of the reading, the logs are read once more.
 ///
-/// The account is that of the group to which its journal leads, and the report tells the fates of that group's transactions.
+/// The account is that of the group to which its journal leads, from one that has just started over a disk that told what this one
+/// did; and the report tells the fates of that group's transactions.
 pub fn run_script<
     R: Threads + Wait + Sync,
     D: Disk + Drop + Send,

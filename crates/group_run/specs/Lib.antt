@@ -6,3 +6,4 @@ pub mod Summary
 pub mod Tellings
 pub mod Outside
 pub mod Ends
+pub mod Given

@@ -7,7 +7,7 @@ use Rattle.checked_run.specs.Leading.{Leads, LeadsFrom}
 use Rattle.checked_run.specs.Settled.{Settles}
 use Rattle.checked_run.specs.Told.{TellsAlways}
 use Rattle.checked_run.proofs.Opened.{came_as, settles_earlier}
-use Rattle.checked_run.proofs.Restarting.{unopened}
+use Rattle.checked_run.proofs.Restarting.{same_self, unopened}
 use Rattle.checked_run.proofs.run.play_from.Goals as goal
 
 pub returns-in-Ok-clause-comes : goal.returns-in-Ok-clause-comes
@@ -25,11 +25,18 @@ returns-in-Ok-clause-comes g c =
       refl,
       came_as
           (LeadsFrom directory_of g.D.Disk.alive g.D.Disk.contents g.D.Disk.faults group c.args.seed account)
-          (Leads g.row.P.Denot g.D.Disk.alive g.D.Disk.contents g.D.Disk.faults script c.args.seed account)
+          (Leads g.row.P.Denot g.D.Disk.alive g.D.Disk.contents g.D.Disk.faults (g.D.Disk.contents c.args.disk) script c.args.seed account)
           (Settles tells script traced opening started now after account)
           (Settles tells script traced opening begun now after account)
           c.finish-disk.result.2
-          (λ (end : RunEnd) (why : Option RunFault) (entries : List Entry) leads. (group, (c.in-Ok.ensures.begins, leads)))
+          (λ (end : RunEnd) (why : Option RunFault) (entries : List Entry) leads. record {
+            opened = c.args.disk;
+            told = same_self (g.D.Disk.contents c.args.disk);
+            start = group;
+            begins = c.in-Ok.ensures.begins;
+            opens = c.in-Ok.ensures.opens;
+            leads = leads;
+          })
           (λ end why entries. settles_earlier tells script traced opening begun started now after account c.in-Ok.ensures.later end why entries c.finish-disk.result.2)
           c.finish-disk.ensures.comes,
     )

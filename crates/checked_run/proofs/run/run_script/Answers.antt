@@ -1,5 +1,6 @@
-use Rattle.std.proofs.Common.{inl, List, Err, refl, sym, ap, subst}
+use Rattle.std.proofs.Common.{inl, List, Option, Err, refl, sym, ap, subst}
 use Rattle.ds_base.specs.declared.row.Row.{Row}
+use Rattle.ds_disk.specs.Contents.{Contents}
 use Rattle.group_core.specs.declared.fault.RunFault.{RunFault}
 use Rattle.checked_run.specs.declared.ended.Ended.{Ended}
 use Rattle.checked_run.specs.declared.ended.Outcome.TheVariants as outcome
@@ -9,7 +10,7 @@ use Rattle.checked_run.specs.Outcomes.{Plays}
 use Rattle.checked_run.specs.Settled.{Settles}
 use Rattle.checked_run.specs.Told.{TellsAlways}
 use Rattle.checked_run.proofs.Opened.{comes, came_as, left_on, settles_earlier}
-use Rattle.checked_run.proofs.Restarting.{left_from, unread}
+use Rattle.checked_run.proofs.Restarting.{left_from, same_on, unread}
 use Rattle.checked_run.proofs.run.run_script.Goals as goal
 
 pub returns-in-Ok-clause-comes : goal.returns-in-Ok-clause-comes
@@ -25,17 +26,25 @@ returns-in-Ok-clause-comes g c =
     let account = c.play_from.result.account in
     let opening = c.in-Ok.opening in
     let opened = c.in-Ok.ensures.opening in
-    let leads = Leads g.row.P.Denot g.D.Disk.alive g.D.Disk.contents g.D.Disk.faults script c.args.seed account in
+    let leads = λ (told : Option Contents). Leads g.row.P.Denot g.D.Disk.alive g.D.Disk.contents g.D.Disk.faults told script c.args.seed account in
+    let there = g.D.Disk.contents c.read_opening.new.disk in
     comes was begun read now account opening
-    (λ (rows : List Row). ComesTo leads (Settles tells script traced opening read now after account))
+    (λ (rows : List Row). ComesTo (leads there) (Settles tells script traced opening read now after account))
     (Plays (kind_of g.row.P.Denot g.D.Disk.alive g.D.Disk.contents g.D.Disk.faults) script c.args.seed traced was begun now after account)
     c.play_from.result.outcome opened.later c.in-Ok.ensures.in_order opened.ok
     (λ (out : Ended) came. record {
       opening = opening;
       opens = opened.ok;
       rows_are = refl;
-      comes = came_as leads leads (Settles tells script traced opening read now after account) (Settles tells script traced opening begun now after account) out
-          (λ end why entries its. its) (λ end why entries. settles_earlier tells script traced opening begun read now after account opened.later end why entries out) came;
+      comes = came_as (leads there) (leads was) (Settles tells script traced opening read now after account) (Settles tells script traced opening begun now after account) out
+          (λ end why entries its. record {
+            opened = its.opened;
+            told = same_on was there (g.D.Disk.contents its.opened) opened.same its.told;
+            start = its.start;
+            begins = its.begins;
+            opens = its.opens;
+            leads = its.leads;
+          }) (λ end why entries. settles_earlier tells script traced opening begun read now after account opened.later end why entries out) came;
     })
     c.play_from.ensures.comes
 
