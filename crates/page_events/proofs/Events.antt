@@ -77,6 +77,7 @@ rebased w v g content forced h now k e a = record {
   moves = a.moves;
   world = a.world;
   run = a.run;
+  plain = a.plain;
   left = a.left;
   versions = a.versions;
   force = a.force;

@@ -12,7 +12,7 @@ use Rattle.page_intents.specs.Castouts.{CastReadGoes, CastWriteGoes, CastDoneGoe
 use Rattle.page_intents.specs.Draws.{ChangeGoes, UndoGoes, CommitGoes}
 use Rattle.page_intents.specs.Owners.{ObtainGoes, GrantGoes, ReleaseGoes, StayGoes}
 use Rattle.page_intents.specs.Locals.{LoseGoes, StaleGoes}
-use Rattle.page_policies.specs.Locals.{ReachesGoes, TransLeavePages}
+use Rattle.page_policies.specs.Locals.{LocalsLeaveLog, ReachesGoes, TransLeavePages}
 
 -- what the directory of a cache keeps
 pub record KeepsSound : Type 0 where
@@ -48,3 +48,4 @@ pub record Facts : Type 0 where
   pub stale : StaleGoes
   pub leave : TransLeavePages
   pub reaches : ReachesGoes
+  pub log : LocalsLeaveLog

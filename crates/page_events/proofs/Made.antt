@@ -1,10 +1,11 @@
 -- What an event leads to, from its moves: all else of the group, and events one after the other.
 use Rattle.std.proofs.Common.{◌≡◌, ◌≢◌, ℕ, ◌≤◌, refl, sym, ◌∙◌, ap, subst, List, [], ◌∷◌, ◌++◌, Option, arith}
-use Rattle.std.specs.Prelude.{◌==◌}
+use Rattle.std.specs.Prelude.{Bool, ◌==◌}
 use Rattle.std.proofs.lemmas.Bool.{cond-true, cond-false, eq-eqb, ne_eqb}
 use Rattle.cache_structure.specs.Sound.{IsSound}
 use Rattle.list_structure.specs.Standings.{status_of}
 use Rattle.facility.specs.States.{Held as Facility}
+use Rattle.member_log.specs.Buffers.{LogBuffer}
 use Rattle.member_needs.specs.declared.castout.Cast.{Cast as InHand}
 use Rattle.member_marks.specs.Local.{Reaches}
 use Rattle.member_effects.specs.Kept.{Kept}
@@ -22,6 +23,7 @@ use Rattle.page_intents.specs.Stands.{AreBehind, copy_of, behind, Goes}
 use Rattle.page_intents.specs.Frames.{Begins}
 use Rattle.page_intents.specs.Castouts.{cast_of, cast_behind, HasCast}
 use Rattle.page_intents.specs.Owners.{LeavesPages}
+use Rattle.page_intents.specs.Plain.{ArePlain, none_waits}
 use Rattle.page_events.specs.Beside.{Shows, SameOthers, OthersStayUp, Leads}
 use Rattle.page_events.proofs.Facts.{Facts}
 
@@ -38,6 +40,7 @@ made law w v g left content versions forced force h k b goes facility drive cast
   moves = goes.moves;
   world = goes.moved.world;
   run = goes.moved.run;
+  plain = goes.plain;
   left = left;
   versions = versions;
   force = force;
@@ -188,6 +191,10 @@ run_on : (w mid v : World) (xs ys : List Move) → Run set_of w xs mid → Run s
 run_on w mid v [] ys r q = subst (λ x. Run set_of x ys v) r q
 run_on w mid v (e ∷ es) ys r q = (r.0, r.1, run_on r.0 mid v es ys r.2 q)
 
+plain_on : (appends : Bool) (xs ys : List Move) → ArePlain appends xs → ArePlain appends ys → ArePlain appends (xs ++ ys)
+plain_on appends [] ys a b = b
+plain_on appends (x ∷ xs) ys a b = (a.0, plain_on appends xs ys a.1 b)
+
 pub standings_same : (f : Facility) → KeepsStandings f f
 standings_same f = record { members = refl; statuses = refl; counter = omega arith }
 
@@ -205,6 +212,7 @@ ended facts w v g content forced h mid k a reaches is =
       moves = a.moves ++ goes.moves;
       world = goes.moved.world;
       run = run_on w a.world goes.moved.world a.moves goes.moves a.run goes.moved.run;
+      plain = plain_on (none_waits k.marks.log.pending) a.moves goes.moves (subst (λ (z : LogBuffer). ArePlain (none_waits z.pending) a.moves) (sym (facts.log mid.marks k.marks reaches)) a.plain) goes.plain;
       left = left;
       versions = a.versions;
       force = a.force;

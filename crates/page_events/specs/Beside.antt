@@ -13,6 +13,7 @@ use Rattle.page_protocol.specs.Page.{put}
 use Rattle.page_protocol.specs.Moves.{World, Move, Run}
 use Rattle.page_world.specs.Numbers.{page_at, page_number, set_of}
 use Rattle.page_world.specs.Holdings.{Holdings}
+use Rattle.page_intents.specs.Plain.{ArePlain, none_waits}
 use Rattle.page_intents.specs.Stands.{IsUp}
 use Rattle.page_intents.specs.Frames.{Begins}
 use Rattle.page_intents.specs.Castouts.{HasCast}
@@ -57,11 +58,12 @@ OthersStayUp = (g left : Holdings) (forced force : ℕ → ℕ) (m : ℕ) (h : H
 -- ---- what an event leads to
 
 -- Moves lead to a good world beside what is left, in which the member is still up, and all else of the others is as it was. The
--- bytes of no version change.
+-- bytes of no version change. No move is a failure, and none is an append but where nothing waits in the member's log buffer behind it.
 pub record Leads (w : World) (v : event.World) (g : Holdings) (content : ℕ → ℕ → List ℕ) (forced : ℕ → ℕ) (h k : Held) : Type 0 where
   pub moves : List Move
   pub world : World
   pub run : Run set_of w moves world
+  pub plain : ArePlain (none_waits k.marks.log.pending) moves
   pub left : Holdings
   pub versions : ℕ → ℕ → List ℕ
   pub force : ℕ → ℕ

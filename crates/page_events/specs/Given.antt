@@ -1,2 +1,3 @@
 -- Given out again: what the crates above take from those below this one.
 pub use Rattle.page_intents.specs.Numbers.{AreNumbered}
+pub use Rattle.page_intents.specs.Plain.{ArePlain, is_plain, none_waits}

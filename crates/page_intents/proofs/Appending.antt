@@ -46,6 +46,7 @@ append_goes law w g content forced k out b lawful =
     record {
       moves = Force m (g.written m) ∷ [];
       moved = moved;
+      plain = (refl, tt);
       numbered = subst (λ z. AreNumbered z content (put forced m k.marks.log.last)) (sym (moved.run.2 ∙ moved.run.1.3)) numbered;
       same = refl;
       stands = record {

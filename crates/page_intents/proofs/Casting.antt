@@ -26,8 +26,9 @@ use Rattle.page_world.specs.Tied.{PageTied, Tied, Moved}
 use Rattle.page_world.specs.Castouts.{taken_cast as taken_bytes, sent_cast, cached, BeginsMoves, CastsMoves, EndsMoves}
 use Rattle.page_intents.specs.Stands.{IsUp, Goes}
 use Rattle.page_intents.specs.Numbers.{AreNumbered}
+use Rattle.page_intents.specs.Plain.{none_waits}
 use Rattle.page_intents.specs.Castouts.{cast_of, cast_behind, taken_cast, AnyDoneGoes, AnyReadGoes, AnyWriteGoes, CastDoneGoes, CastGoes, CastReadGoes, CastWriteGoes}
-use Rattle.page_intents.proofs.Chains.{AtPages, at_one, at_none, numbered_on}
+use Rattle.page_intents.proofs.Chains.{AtPages, at_one, at_none, numbered_on, plain_pages}
 use Rattle.page_intents.proofs.Standing.{SameMembers, same_members}
 
 -- ---- what a member has in hand of a castout may be forgotten
@@ -118,10 +119,10 @@ up_beside g forced k v now disk up same = record {
 
 goes_up : (w : World) (g : Holdings) (content : ℕ → ℕ → List ℕ) (forced : ℕ → ℕ) (k : Kept) (v : Held) (now : ℕ → ℕ → Cast) (disk : ℕ → List ℕ) → CastGoes w content forced (record g { facility = v; casts = now; disk = disk }) → IsUp g forced k → SameMembers g.facility v
     → Goes w content forced (record g { facility = v; casts = now; disk = disk }) k.marks k
-goes_up w g content forced k v now disk c up same = record { moves = c.moves; moved = c.moved; numbered = c.numbered; same = refl; stands = up_beside g forced k v now disk up same }
+goes_up w g content forced k v now disk c up same = record { moves = c.moves; moved = c.moved; plain = c.plain (none_waits k.marks.log.pending); numbered = c.numbered; same = refl; stands = up_beside g forced k v now disk up same }
 
 casts : (w : World) (content : ℕ → ℕ → List ℕ) (forced : ℕ → ℕ) (left : Holdings) (moves : List Move) → AreNumbered w content forced → AtPages moves → Moved w moves left content → CastGoes w content forced left
-casts w content forced left moves numbered pages moved = record { moves = moves; moved = moved; numbered = numbered_on w moved.world moves content forced pages moved.run numbered }
+casts w content forced left moves numbered pages moved = record { moves = moves; moved = moved; plain = λ appends. plain_pages appends moves pages; numbered = numbered_on w moved.world moves content forced pages moved.run numbered }
 
 -- ---- the page is read
 not_first : (b : Bool) (x : CastReply) → ((if b then cast.Taken else x) ≡ cast.Taken → ⊥) → b ≡ false

@@ -11,6 +11,7 @@ use Rattle.page_protocol.specs.Moves.{World, PageMove, Move, PageStep, Step, Run
 use Rattle.page_world.specs.Numbers.{set_of}
 use Rattle.page_world.specs.Cache.{reclaim_of, entry_moves}
 use Rattle.page_intents.specs.Numbers.{AreNumbered}
+use Rattle.page_intents.specs.Plain.{ArePlain, is_plain}
 
 pub record Chain : Type 0 where
   pub last : ℕ
@@ -62,6 +63,11 @@ numbered_along w v content forced same stable counter t = record {
 pub AtPages : List Move → Type 0
 AtPages [] = Unit {0}
 AtPages (e ∷ es) = ((n : ℕ) × (x : PageMove) × (e ≡ At n x)) × AtPages es
+
+pub plain_pages : (appends : Bool) (es : List Move) → AtPages es → ArePlain appends es
+unfolding AtPages
+plain_pages appends [] a = tt
+plain_pages appends (e ∷ es) a = (ap (is_plain appends) a.0.2, plain_pages appends es a.1)
 
 pub at_one : (n : ℕ) (e : PageMove) → AtPages (At n e ∷ [])
 unfolding AtPages

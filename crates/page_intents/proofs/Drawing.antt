@@ -239,6 +239,7 @@ module _ (w : World) (g : Holdings) (content : ℕ → ℕ → List ℕ) (forced
       record {
         moves = Draw k.marks.member (touched_in g k.marks.member is) ∷ [];
         moved = so;
+        plain = (refl, tt);
         numbered = subst (λ z. AreNumbered z now forced) (sym (so.run.2 ∙ so.run.1.2)) (numbered_drawn (e ∙ ap (λ z. z + 1) (sym b.tied.counter)));
         same = d.member;
         stands = still_up v members statuses counter;

@@ -45,7 +45,8 @@ use Rattle.page_world.specs.Losses.{StaysTied}
 use Rattle.page_intents.specs.Stands.{AreBehind, copy_in, copy_of, IsUp, Goes}
 use Rattle.page_intents.specs.Frames.{Begins}
 use Rattle.page_intents.specs.Owners.{owned_by, ObtainGoes, GrantGoes, ReleaseGoes, LeavesPages, StayGoes}
-use Rattle.page_intents.proofs.Chains.{AtPages, at_one, at_none, numbered_on}
+use Rattle.page_intents.specs.Plain.{none_waits}
+use Rattle.page_intents.proofs.Chains.{AtPages, at_one, at_none, numbered_on, plain_pages}
 use Rattle.page_intents.proofs.Standing.{is_live_up}
 
 -- ---- claims on other names
@@ -120,6 +121,7 @@ stay_goes law w g content forced k t v b left keeps =
     record {
       moves = [];
       moved = moved;
+      plain = tt;
       numbered = numbered_on w moved.world [] content forced at_none moved.run b.numbered;
       same = left.member;
       stands = up_owner g forced k t v g.owner b.up keeps left.member left.heads left.log (λ n e. b.up.owns n (sym (left.claims (page_at n)) ∙ e)) (λ n e. b.up.no_more n (sym (left.claims (page_at n)) ∙ e));
@@ -163,6 +165,7 @@ granted_goes numbers law stay w g content forced k t p v true e room b keeps fre
     record {
       moves = taken.0;
       moved = taken.2;
+      plain = plain_pages (none_waits t.log.pending) taken.0 taken.1;
       numbered = numbered_on w taken.2.world taken.0 content forced taken.1 taken.2.run b.numbered;
       same = ap (λ (z : MarksState). z.member) entered.1;
       stands = up_owner g forced k t v (put g.owner (page_number p) (Some m)) b.up keeps (ap (λ (z : MarksState). z.member) entered.1) (ap (λ (z : MarksState). z.heads) entered.1) (ap (λ (z : MarksState). z.log) entered.1)
@@ -206,6 +209,7 @@ release_goes numbers law w g content forced k p out answer v b distinct lawful r
     (record {
       moves = At n (Unlock m) ∷ [];
       moved = moved;
+      plain = (refl, tt);
       numbered = numbered_on w moved.world (At n (Unlock m) ∷ []) content forced (at_one n (Unlock m)) moved.run b.numbered;
       same = refl;
       stands = up_owner g forced k t v (put g.owner n None) b.up keeps refl refl refl

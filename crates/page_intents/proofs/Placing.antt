@@ -135,10 +135,11 @@ lost_numbered w v content forced s t = subst (λ z. AreNumbered z content forced
 
 lose_by : (w : World) (g : Holdings) (content : ℕ → ℕ → List ℕ) (forced : ℕ → ℕ) (k : Kept) (v : Held) (x : Bool) → Begins w g content forced k → IsUp (with_facility g v) forced k → Moved w (if x then [] else Lose ∷ []) (with_facility g v) content
     → Goes w content forced (with_facility g v) k.marks k
-lose_by w g content forced k v true b up m = record { moves = []; moved = m; numbered = numbered_on w m.world [] content forced at_none m.run b.numbered; same = refl; stands = up }
+lose_by w g content forced k v true b up m = record { moves = []; moved = m; plain = tt; numbered = numbered_on w m.world [] content forced at_none m.run b.numbered; same = refl; stands = up }
 lose_by w g content forced k v false b up m = record {
   moves = Lose ∷ [];
   moved = m;
+  plain = (refl, tt);
   numbered = subst (λ z. AreNumbered z content forced) (sym m.run.2) (lost_numbered w m.run.0 content forced m.run.1 b.numbered);
   same = refl;
   stands = up;

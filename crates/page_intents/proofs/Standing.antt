@@ -16,6 +16,7 @@ use Rattle.page_world.specs.Tied.{Tied, Moved}
 use Rattle.page_world.specs.Cache.{IsLive, HasFrame}
 use Rattle.page_world.specs.Numbers.{page_number, page_at, AreNumbered as Numbers}
 use Rattle.page_intents.specs.Numbers.{AreNumbered}
+use Rattle.page_intents.specs.Plain.{none_waits}
 use Rattle.page_intents.specs.Stands.{AreBehind, copy_at, copy_of, IsUp, behind, Goes}
 use Rattle.ds_model.specs.declared.lock.Name.TheVariants as name
 use Rattle.lock_manager.specs.Managers.{Book, held_by}
@@ -23,7 +24,7 @@ use Rattle.member_log.specs.Buffers.{LogBuffer}
 use Rattle.member_marks.specs.Claims.{has_page}
 use Rattle.member_marks.specs.Frames.{frame_in}
 use Rattle.page_intents.proofs.Heads.{Sets, SameRest, kept_apart, kept_there, copy_here, copy_with}
-use Rattle.page_intents.proofs.Chains.{AtPages, at_none, numbered_on}
+use Rattle.page_intents.proofs.Chains.{AtPages, at_none, numbered_on, plain_pages}
 
 pub is_live_up : (g : Holdings) (forced : ℕ → ℕ) (k : Kept) → IsUp g forced k → IsLive g k.marks.member
 is_live_up g forced k up = record { least = up.least; among = up.among; live = ap is_live up.up }
@@ -106,7 +107,7 @@ pub goes_by : (w : World) (g : Holdings) (content : ℕ → ℕ → List ℕ) (f
     → AreNumbered w content forced → IsUp g forced k → Leaves k t n c → SameMembers g.facility v → AtPages moves → Moved w moves (with_facility (with_copy g k.marks.member n c) v) content → Goes w content forced (behind g v k.marks.member t) k.marks t
 goes_by w g content forced v k t n c moves numbered up left same pages moved =
     let m = subst (λ z. Moved w moves z content) (same_holdings g forced v k t n c up left) moved in
-    record { moves = moves; moved = m; numbered = numbered_on w m.world moves content forced pages m.run numbered; same = left.rest.member; stands = still_up g forced v k t n c up left same }
+    record { moves = moves; moved = m; plain = plain_pages (none_waits t.marks.log.pending) moves pages; numbered = numbered_on w m.world moves content forced pages m.run numbered; same = left.rest.member; stands = still_up g forced v k t n c up left same }
 
 -- ---- an event that is no move
 same_copy : (g : Holdings) (m n : ℕ) → with_copy g m n (g.copies m n) ≡ g

@@ -1,5 +1,5 @@
 -- The intents of a castout, of a member that is up, and of one whose restart is in hand.
-use Rattle.std.specs.Prelude.{◌≡◌, ◌≢◌, ◌⊎◌, ℕ, ◌==◌, true, false, if◌then◌else◌, List, Option, Some, None}
+use Rattle.std.specs.Prelude.{◌≡◌, ◌≢◌, ◌⊎◌, ℕ, ◌==◌, Bool, true, false, if◌then◌else◌, List, Option, Some, None}
 use Rattle.ds_base.specs.declared.names.PageId.{PageId}
 use Rattle.list_structure.specs.Standings.{status_of}
 use Rattle.facility.specs.declared.command.Reply.{Reply}
@@ -15,6 +15,7 @@ use Rattle.page_world.specs.Numbers.{page_number}
 use Rattle.page_world.specs.Holdings.{Cast, no_cast, Holdings}
 use Rattle.page_world.specs.Tied.{Moved, Tied}
 use Rattle.page_intents.specs.Numbers.{AreNumbered}
+use Rattle.page_intents.specs.Plain.{ArePlain}
 use Rattle.page_intents.specs.Stands.{Goes}
 use Rattle.page_intents.specs.Frames.{Begins}
 
@@ -58,11 +59,12 @@ CastDoneGoes = (w : World) (g : Holdings) (content : ℕ → ℕ → List ℕ) (
     → Goes w content forced (cast_behind g v k.marks.member None buffer) k.marks k
 
 -- ---- each of them is so of any member, whatever its standing: moves lead to a world that stands beside what is left, whose versions still show
--- their numbers
+-- their numbers; none of the moves is a failure, and none an append
 
 pub record CastGoes (w : World) (content : ℕ → ℕ → List ℕ) (forced : ℕ → ℕ) (left : Holdings) : Type 0 where
   pub moves : List Move
   pub moved : Moved w moves left content
+  pub plain : (appends : Bool) → ArePlain appends moves
   pub numbered : AreNumbered moved.world content forced
 
 abbrev pub AnyReadGoes : Type 0

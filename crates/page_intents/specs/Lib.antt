@@ -1,5 +1,6 @@
 pub mod Stands
 pub mod Numbers
+pub mod Plain
 pub mod Frames
 pub mod Logs
 pub mod Castouts

@@ -20,6 +20,7 @@ use Rattle.page_world.specs.Numbers.{page_at}
 use Rattle.page_world.specs.Holdings.{Copy, no_copy, Holdings}
 use Rattle.page_world.specs.Tied.{Moved}
 use Rattle.page_intents.specs.Numbers.{AreNumbered}
+use Rattle.page_intents.specs.Plain.{ArePlain, none_waits}
 
 -- ---- frames as copies of pages
 
@@ -74,10 +75,12 @@ behind g v m t = record g {
 }
 
 -- moves lead to a world that stands beside what an event of it has left, whose versions still show their numbers; and the member is
--- still up. The log of each member stands on disk up to this number
+-- still up. The log of each member stands on disk up to this number. No move is a failure, and none is an append but where nothing waits in
+-- the member's log buffer behind it
 pub record Goes (w : World) (content : ℕ → ℕ → List ℕ) (forced : ℕ → ℕ) (left : Holdings) (s : MarksState) (t : Kept) : Type 0 where
   pub moves : List Move
   pub moved : Moved w moves left content
+  pub plain : ArePlain (none_waits t.marks.log.pending) moves
   pub numbered : AreNumbered moved.world content forced
   pub same : t.marks.member ≡ s.member
   pub stands : IsUp left forced t

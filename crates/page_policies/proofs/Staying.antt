@@ -13,6 +13,7 @@ use Rattle.lock_manager.specs.declared.claim.Claim.{Claim}
 use Rattle.lock_manager.specs.Claims.{mode_in}
 use Rattle.lock_manager.specs.Managers.{Book, slots, claims_of, ask_of, given, with_claims, after_release, release_told, ended, after_postponed_release, dropped, is_postponed}
 use Rattle.facility.specs.States.{Held}
+use Rattle.member_log.specs.Buffers.{LogBuffer}
 use Rattle.member_pool.specs.Frames.{find_page, is_unpinned}
 use Rattle.member_pool.specs.Heads.{HeadState, free_in, head_of, placed_in}
 use Rattle.member_trans.specs.declared.fate.Owner.{Owner}
@@ -32,8 +33,9 @@ use Rattle.page_world.specs.Holdings.{Copy, Holdings, with_facility}
 use Rattle.page_intents.specs.Stands.{copy_of, behind, Goes}
 use Rattle.page_intents.specs.Frames.{Begins}
 use Rattle.page_intents.specs.Owners.{LeavesPages, StayGoes}
+use Rattle.page_intents.specs.Plain.{ArePlain, none_waits}
 use Rattle.page_intents.specs.Locals.{PinGoes, PlaceGoes, UnpinGoes}
-use Rattle.page_policies.specs.Locals.{OwnClaimsStay, TransLeavePages, LocalGoes, ReachesGoes}
+use Rattle.page_policies.specs.Locals.{LocalsLeaveLog, OwnClaimsStay, TransLeavePages, LocalGoes, ReachesGoes}
 
 -- ---- the claims of the member itself
 record Own (s t : MarksState) : Type 0 where
@@ -247,7 +249,40 @@ own_stay = record {
   reaches = reach_own;
 }
 
+-- ---- the log buffer behind them
+log_if : (s t : MarksState) (b : Bool) → t.log ≡ s.log → (if b then t else s).log ≡ s.log
+log_if s t true e = e
+log_if s t false e = refl
+
+placed_log : (s : MarksState) (p : PageId) (o : Option ℕ) → (placed_at s p o).log ≡ s.log
+placed_log s p None = refl
+placed_log s p (Some at) = log_if s (with_heads s (placed_in s.heads at p)) (is_unpinned (head_of s.heads at)) refl
+
+local_log : (x : Local) (s : MarksState) → (moved x s).log ≡ s.log
+local_log (TryClaim slot n m has_memory spare) s = (claim_own s slot n m has_memory spare).log
+local_log (Begin slot n has_memory lock_room room) s = (begin_own s slot n has_memory lock_room room).log
+local_log (Refuse slot) s = refl
+local_log (Abort slot) s = refl
+local_log (RefuseForMemory slot) s = refl
+local_log (Place p) s = log_if s (placed_at s p (free_in s.heads)) (is_none (find_page s.heads.frames p)) (placed_log s p (free_in s.heads))
+local_log (Pin at) s = log_if s _ (may_pin s.heads at) refl
+local_log (Unpin at) s = log_if s _ (may_unpin s.heads at) refl
+local_log (Postpone slot) s = (postpone_own s slot).log
+local_log (WaitFor id) s = (wait_own s id).log
+
+all_log : (xs : List Local) (s : MarksState) → (all_moved xs s).log ≡ s.log
+all_log [] s = refl
+all_log (x ∷ xs) s = all_log xs (moved x s) ∙ local_log x s
+
+pub reach_log : LocalsLeaveLog
+unfolding Reaches
+reach_log s t r = ap (λ (z : MarksState). z.log) r.1 ∙ all_log r.0 s
+
 -- ---- several
+plain_on : (appends : Bool) (xs ys : List Move) → ArePlain appends xs → ArePlain appends ys → ArePlain appends (xs ++ ys)
+plain_on appends [] ys a b = b
+plain_on appends (x ∷ xs) ys a b = (a.0, plain_on appends xs ys a.1 b)
+
 run_on : (w mid v : World) (xs ys : List Move) → Run set_of w xs mid → Run set_of mid ys v → Run set_of w (xs ++ ys) v
 run_on w mid v [] ys r q = subst (λ x. Run set_of x ys v) r q
 run_on w mid v (e ∷ es) ys r q = (r.0, r.1, run_on r.0 mid v es ys r.2 q)
@@ -277,6 +312,7 @@ all_reached none one good (x ∷ xs) w g content forced k b =
     (record {
       moves = first.moves ++ next.moves;
       moved = record { world = next.moved.world; run = run_on w first.moved.world next.moved.world first.moves next.moves first.moved.run next.moved.run; tied = next.moved.tied };
+      plain = plain_on (none_waits last.marks.log.pending) first.moves next.moves (subst (λ (z : LogBuffer). ArePlain (none_waits z.pending) first.moves) (sym (all_log xs mid.marks)) first.plain) next.plain;
       numbered = next.numbered;
       same = next.same ∙ first.same;
       stands = next.stands;

@@ -38,3 +38,7 @@ LocalGoes = (w : World) (g : Holdings) (content : ℕ → ℕ → List ℕ) (for
 abbrev pub ReachesGoes : Type 0
 ReachesGoes = (w : World) (g : Holdings) (content : ℕ → ℕ → List ℕ) (forced : ℕ → ℕ) (k : Kept) (t : MarksState)
     → Begins w g content forced k → Reaches k.marks t → Goes w content forced (behind g g.facility k.marks.member (with_marks k t)) k.marks (with_marks k t)
+
+-- local moves leave the log buffer as it is
+abbrev pub LocalsLeaveLog : Type 0
+LocalsLeaveLog = (s t : MarksState) → Reaches s t → t.log ≡ s.log

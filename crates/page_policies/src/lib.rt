@@ -4,15 +4,16 @@
 //! The crate has definitions and proofs alone. Its functions do nothing: their contracts are the theorems.
 #![tactic(auto)]
 
-ghost use Rattle.page_policies.specs.Locals.{LocalGoes, OwnClaimsStay, ReachesGoes, TransLeavePages};
+ghost use Rattle.page_policies.specs.Locals.{LocalGoes, LocalsLeaveLog, OwnClaimsStay, ReachesGoes, TransLeavePages};
 
 use page_intents::{locals_stay, others_stay};
 use page_protocol::coherent_pages;
 
-/// Any local move, and all that a policy reaches by local moves, is no move of pages.
+/// Any local move, and all that a policy reaches by local moves, is no move of pages, and leaves the log buffer as it is.
 pub fn policies_go()
     ensures local { LocalGoes }
     ensures reaches { ReachesGoes }
+    ensures log { LocalsLeaveLog }
 {
     others_stay();
     locals_stay();

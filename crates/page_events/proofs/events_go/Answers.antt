@@ -34,5 +34,6 @@ returns c =
       stale = c.locals_stay.ensures.stale;
       leave = c.transactions_leave.ensures;
       reaches = c.policies_go.ensures.reaches;
+      log = c.policies_go.ensures.log;
     } in
     record { event = events_go facts; told = told_goes facts }
