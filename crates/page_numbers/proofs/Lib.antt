@@ -1,3 +1,10 @@
 pub mod Stamps
 pub mod Rows
 pub mod Systems
+pub mod Covering
+pub mod Sizes
+pub mod Planned
+pub mod Drawn
+pub mod Framed
+pub mod Recorded
+pub mod Whole
