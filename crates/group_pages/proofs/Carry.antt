@@ -7,21 +7,17 @@ use Rattle.lock_names.specs.Given.name_variants as name
 use Rattle.list_structure.specs.declared.standing.MemberStatus.TheVariants.{Up}
 use Rattle.list_structure.specs.Standings.{is_live, status_of}
 use Rattle.facility.specs.States.{Held as Facility}
-use Rattle.member_resources.specs.Events.{Drive}
-use Rattle.restart_resources.specs.Held.{Held as RestartHolds}
-use Rattle.group_member.specs.declared.restarting.Restarting.{Restarting as RestartHeld}
-use Rattle.group_member.specs.Members.{Member}
+use Rattle.page_owners.specs.Given.{Drive, Group, HasCast, Member, OthersStayUp, RestartHeld, SameOthers, Shows}
+use Rattle.restart_owners.specs.Given.{OthersRestart, RestartHolds}
 use Rattle.group_locks.specs.Stands.{MemberStands, RestartInHand}
 use Rattle.page_protocol.specs.Moves.{World}
 use Rattle.page_world.specs.Holdings.{Holdings}
 use Rattle.page_world.specs.Numbers.{page_at}
-use Rattle.page_intents.specs.Castouts.{HasCast}
-use Rattle.page_members.specs.Members.{Group, OthersStayUp, SameOthers, Shows}
 use Rattle.page_owners.specs.Resting.{IsBare}
-use Rattle.page_restarts.specs.Beside.{OthersRestart}
 use Rattle.retained_pages.specs.Retained.{Retains, SparesOthers}
 use Rattle.restart_owners.specs.Listing.{ListingStays}
 use Rattle.restart_owners.specs.Owners.{OthersOwn}
+use Rattle.restart_owners.specs.Undrawn.{UndrawnStays}
 use Rattle.group_pages.specs.Stands.{CrewPages, DownPages, IsUnread, MemberPages, RestartPages, UpPages}
 
 pub record Facts : Type 0 where
@@ -29,6 +25,7 @@ pub record Facts : Type 0 where
   pub restart : OthersRestart
   pub own : OthersOwn
   pub list : ListingStays
+  pub undrawn : UndrawnStays
 
 -- ---- retained locks
 pub retained_on : (f v : Facility) (m k : ℕ) (p : PageId) → SparesOthers f v m → k ≢ m → Retains f k p → Retains v k p
@@ -64,6 +61,7 @@ restart_on facts g left forced force m h same spares away r = record {
   stage = stage r.stage;
   owns = facts.own g left forced force g.facility left.facility m h.marks same away (λ p x. retained_on g.facility left.facility m h.marks.member p spares away x) r.owns;
   lists = facts.list g.facility left.facility m h.marks spares away r.lists;
+  undrawn = facts.undrawn g left forced force m h.marks same away r.undrawn;
 }
   where
     stage : IsUnread g h.marks ⊎ (h.marks.own.is_read ≡ true) → IsUnread left h.marks ⊎ (h.marks.own.is_read ≡ true)
@@ -95,10 +93,10 @@ carried facts g left forced force m k x same spares least ne stands p = record {
     in_hand None hand r = tt
     in_hand (Some q) hand r = restart_on facts g left forced force m q.resources same spares (λ z. ne (sym hand ∙ z)) r
 
-    restarting : IfSome x.restart (λ (q : RestartHeld). RestartPages g forced q.resources) × IsBare x.holds.marks × HasCast g k x.holds.cast x.holds.buffer → IfSome x.restart (λ (q : RestartHeld). RestartPages left force q.resources) × IsBare x.holds.marks × HasCast left k x.holds.cast x.holds.buffer
+    restarting : IfSome x.restart (λ (q : RestartHeld). RestartPages g forced q.resources) × IsBare x.holds × HasCast g k x.holds.cast x.holds.buffer → IfSome x.restart (λ (q : RestartHeld). RestartPages left force q.resources) × IsBare x.holds × HasCast left k x.holds.cast x.holds.buffer
     restarting r = (in_hand x.restart stands.restart r.0, r.1, cast r.2)
 
-    fallen : DownPages g k × IsBare x.holds.marks × HasCast g k x.holds.cast x.holds.buffer → DownPages left k × IsBare x.holds.marks × HasCast left k x.holds.cast x.holds.buffer
+    fallen : DownPages g k × IsBare x.holds × HasCast g k x.holds.cast x.holds.buffer → DownPages left k × IsBare x.holds × HasCast left k x.holds.cast x.holds.buffer
     fallen y = (
       record {
         level = same.written k ne ∙ y.0.level ∙ sym (same.stable k ne);

@@ -1,7 +1,7 @@
 -- Lists of moves, one behind the other.
 use Rattle.std.proofs.Common.{subst, List, [], ◌∷◌, ◌++◌}
-use Rattle.member_resources.specs.Events.{Drive}
-use Rattle.group_core.specs.Given.{CrewState}
+use Rattle.page_owners.specs.Given.{Drive}
+use Rattle.group_locks.specs.Given.{CrewState}
 use Rattle.page_protocol.specs.Moves.{Move, Run, World}
 use Rattle.page_world.specs.Numbers.{set_of}
 use Rattle.group_pages.specs.Events.{PageMoves}

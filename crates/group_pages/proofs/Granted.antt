@@ -24,15 +24,7 @@ use Rattle.member_intents.specs.Cells.{cell_slot}
 use Rattle.member_trans.specs.declared.fate.Owner.{Owner}
 use Rattle.member_marks.specs.State.{MarksState}
 use Rattle.member_marks.specs.Claims.{PageEntered, has_page, may_enter_page}
-use Rattle.member_needs.specs.declared.needs.Setting.{Setting}
-use Rattle.member_needs.specs.declared.plans.Plan.{Plan}
-use Rattle.member_effects.specs.declared.told.Told.{Told}
-use Rattle.member_effects.specs.Claims.{Claims as SettlesClaims}
-use Rattle.needs_law.specs.Lawful.{Lawful, MayClaim, SendsLawfully}
-use Rattle.member_resources.specs.Events.{Happens, Runs, World as Resources, holder_in}
-use Rattle.member_resources.specs.Held.{Held, begun}
-use Rattle.member_resources.specs.Prepared.{HasSpare, Reserves, setting_of}
-use Rattle.page_members.specs.Members.{page_named, page_taken}
+use Rattle.page_owners.specs.Given.{Happens, HasSpare, Held, Lawful, MayClaim, Plan, Reserves, Resources, Runs, SendsLawfully, Setting, SettlesClaims, Told, begun, holder_in, page_named, page_taken, setting_of}
 use Rattle.page_owners.proofs.InX.{is_lawful, ran}
 use Rattle.retained_pages.specs.Retained.{GrantsNone, ObtainsNone, Retains}
 

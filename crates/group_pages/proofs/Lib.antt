@@ -6,3 +6,5 @@ pub mod Owners
 pub mod Rebuilds
 pub mod Up
 pub mod Members
+pub mod Newest
+pub mod Given

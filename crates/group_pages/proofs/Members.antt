@@ -2,13 +2,8 @@
 use Rattle.std.proofs.Common.{◌≡◌, ◌+◌, sym, ◌∙◌, ap, Bool, true, false, Option, Some, None}
 use Rattle.std.specs.Prelude.{◌||◌, is_some}
 use Rattle.list_structure.specs.Standings.{status_of}
-use Rattle.member_resources.specs.Events.{World as Resources}
-use Rattle.group_member.specs.declared.restarting.Restarting.{Restarting as RestartHeld}
-use Rattle.group_member.specs.declared.stepped.Stepped.{Stepped}
-use Rattle.group_member.specs.declared.stepped.Stepped.TheVariants as steps
-use Rattle.group_member.specs.Happening.{Steps}
-use Rattle.group_member.specs.Stepping.{is_failure, is_over}
-use Rattle.lock_members.specs.Given.{CommandsStay}
+use Rattle.page_owners.specs.Given.{CommandsStay, Resources, RestartHeld, Stepped, Steps, is_failure, is_over}
+use Rattle.page_owners.specs.Given.stepped_variants as steps
 use Rattle.group_locks.specs.Stands.{MemberStands}
 use Rattle.page_rebuilds.specs.Rebuilds.{EventsGo as RebuildsGo}
 use Rattle.group_pages.specs.Events.{PageMoves}

@@ -12,16 +12,13 @@ use Rattle.list_structure.specs.Standings.{is_live, status_of}
 use Rattle.lock_manager.specs.Managers.{claims_of, held_by}
 use Rattle.facility.specs.States.{Held as Facility}
 use Rattle.member_marks.specs.Claims.{has_page}
-use Rattle.member_resources.specs.Events.{Drive}
-use Rattle.group_member.specs.declared.restarting.Restarting.{Restarting as RestartHeld}
-use Rattle.group_member.specs.Members.{Member}
-use Rattle.group_core.specs.Given.{CrewState}
+use Rattle.page_owners.specs.Given.{Drive, Member, RestartHeld}
+use Rattle.group_locks.specs.Given.{CrewState, known_of, or_else, restart_claim}
 use Rattle.lock_protocol.specs.Machine.{World as LockWorld}
 use Rattle.lock_world.specs.Books.{SlotHas}
 use Rattle.lock_world.specs.Numbers.{number}
 use Rattle.lock_world.specs.Tied.{ClaimTied}
 use Rattle.lock_world.specs.Views.{claim_in}
-use Rattle.lock_members.specs.Known.{known_of, or_else, page_claim, restart_claim}
 use Rattle.group_locks.specs.Stands.{LocksTied, MemberStands, RestartInHand, RestartStands, known, known_by}
 use Rattle.page_protocol.specs.Moves.{World}
 use Rattle.page_world.specs.Holdings.{Holdings}
@@ -60,10 +57,13 @@ page_known has f k m p stands held =
     let own : claim_in m.holds.marks.locks 0 c ≡ Some X = has m.holds.marks.locks 0 (name.Page p) stands.book (omega arith) ∙ held in
     ap (λ z. or_else z (restart_claim m.restart 0 c)) own
 
+abbrev with_claim : RestartHeld → Option PageId → RestartHeld
+with_claim q claim = record q { resources = record q.resources { marks = record q.resources.marks { claim = claim } } }
+
 restart_known : (m : Member) (k : ℕ) (q : RestartHeld) (p : PageId) → m.restart ≡ Some q → RestartStands k m q.resources.marks → q.resources.marks.claim ≡ Some p → known_of m 0 (number (name.Page p)) ≡ Some X
 restart_known m k q p had stands claimed =
     let c = number (name.Page p) in
-    ap (λ z. or_else z (restart_claim m.restart 0 c)) (stands.own c) ∙ ap (λ (z : Option RestartHeld). restart_claim z 0 c) had ∙ ap (λ (z : Option PageId). page_claim z c) claimed ∙ cond-true (c == c) (Some X) None (eq-eqb c c refl)
+    ap (λ z. or_else z (restart_claim m.restart 0 c)) (stands.own c) ∙ ap (λ (z : Option RestartHeld). restart_claim z 0 c) had ∙ ap (λ z. restart_claim (Some (with_claim q z)) 0 c) claimed ∙ cond-true (c == c) (Some X) None (eq-eqb c c refl)
 
 -- ---- by its standing
 standings : (s : MemberStatus) → (s ≡ status.Up) ⊎ ((s ≡ status.Restarting) ⊎ (is_live s ≡ false))

@@ -11,8 +11,8 @@ use Rattle.checkpoint_reader.specs.Readers.{next_call}
 use Rattle.page_records.specs.declared.places.PageRecords.{PageRecords}
 use Rattle.facility.specs.States.{Held as Facility}
 use Rattle.member_intents.specs.declared.outcome.Answered.{Answered}
-use Rattle.member_resources.specs.Events.{Drive, World as Resources}
-use Rattle.member_resources.specs.Held.{Held}
+use Rattle.member_intents.specs.declared.outcome.Answered.TheVariants as answered
+use Rattle.page_owners.specs.Given.{CommandsStay, Drive, Enters, Held, Member, RebuildEnds, RebuildGoesOn, Rebuilding, Resources, Tells, as_rebuilding, is_failure, is_quiet, told_once}
 use Rattle.rebuild_resources.specs.Events as rebuilding
 use Rattle.rebuild_resources.specs.Needs.{Need, call_sent, first_sent, hand_sent, need_of, when}
 use Rattle.rebuild_resources.specs.State.{RebuildState}
@@ -23,16 +23,12 @@ use Rattle.rebuild_resources.specs.declared.intent.RebuildSent.TheVariants as se
 use Rattle.rebuild_resources.specs.declared.intent.RebuildTest.{RebuildTest}
 use Rattle.rebuild_resources.specs.declared.told.RebuildTold.{RebuildTold}
 use Rattle.script_fates.specs.Fated.{FatesState}
-use Rattle.group_member.specs.declared.rebuilding.Rebuilding.{Rebuilding}
-use Rattle.group_member.specs.Entering.{Enters, told_once}
-use Rattle.group_member.specs.Happening.{RebuildEnds, RebuildGoesOn, Tells, as_rebuilding}
-use Rattle.group_member.specs.Members.{Member}
-use Rattle.lock_members.specs.Given.{CommandsStay, is_quiet}
 use Rattle.page_protocol.specs.Moves.{Move, Run, World}
 use Rattle.page_world.specs.Holdings.{Holdings}
 use Rattle.page_world.specs.Numbers.{set_of}
-use Rattle.page_rebuilds.specs.Rebuilds.{EventsGo, FollowsLogs, RebuildGoes}
+use Rattle.page_rebuilds.specs.Rebuilds.{EventsGo, RebuildGoes}
 use Rattle.retained_pages.specs.Retained.{SparesOthers}
+use Rattle.group_pages.specs.Members.{LogsLead}
 use Rattle.group_pages.specs.Stands.{CrewPages}
 use Rattle.group_pages.proofs.Carry.{IsNamed, all_carried}
 use Rattle.group_pages.proofs.Carry as carrying
@@ -99,8 +95,8 @@ pub record RebuildLeft (e : Drive) (v : Facility) (ms : List Member) (w : World)
   pub statuses : (k : ℕ) → 1 ≤ k → status_of left.facility.lists.statuses k ≡ status_of g.facility.lists.statuses k
 
 pub rebuilt : EventsGo → CommandsStay → carrying.Facts → (u v : Resources) (ms : List Member) (w : World) (g : Holdings) (content : ℕ → ℕ → List ℕ) (forced : ℕ → ℕ) (h k : RebuildState) (s : RebuildSent) (a : Answered)
-    → ((j : ℕ) → IfSome (slice_get ms j) (IsNamed (j + 1))) → CrewPages u.drive u.facility ms w g content forced → rebuilding.Happens (as_rebuilding u) h s a (as_rebuilding v) k → FollowsLogs w g content h s a → RebuildLeft v.drive v.facility ms w g content forced
-rebuilt law stay others u v ms w g content forced h k s a stands p happens follows = record {
+    → ((j : ℕ) → IfSome (slice_get ms j) (IsNamed (j + 1))) → CrewPages u.drive u.facility ms w g content forced → rebuilding.Happens (as_rebuilding u) h s a (as_rebuilding v) k → is_failure a ≡ false → LogsLead w g content h s → RebuildLeft v.drive v.facility ms w g content forced
+rebuilt law stay others u v ms w g content forced h k s a stands p happens unfailed lead = record {
   moves = goes.goes.moves;
   world = goes.goes.world;
   run = goes.goes.run;
@@ -112,8 +108,11 @@ rebuilt law stay others u v ms w g content forced h k s a stands p happens follo
     not_zero : (j : ℕ) → 1 ≤ j → j ≢ 0
     not_zero j least e = omega (arith, least, e)
 
+    works : a ≢ answered.Failed
+    works is = let failed : is_failure a ≡ true = ap is_failure is in let never : true ≡ false = sym failed ∙ unfailed in cc
+
     goes : RebuildGoes w v g content forced
-    goes = law w u v g content forced h k s a p.group p.facility p.drive happens follows
+    goes = law w u v g content forced h k s a p.group p.facility p.drive happens (record { written = lead.written; rebuilt = lead.rebuilt; works = works })
 
     spared : SparesOthers g.facility goes.left.facility 0
     spared = spares_locks g.facility goes.left.facility 0

@@ -14,16 +14,8 @@ use Rattle.member_intents.specs.declared.outcome.Sent.TheVariants as sent
 use Rattle.member_intents.specs.Cells.{cell_slot}
 use Rattle.member_marks.specs.Claims.{answer_to}
 use Rattle.member_marks.specs.State.{slot_id}
-use Rattle.member_needs.specs.Castout.{done}
-use Rattle.member_needs.specs.declared.plans.Plan.{Plan}
-use Rattle.member_effects.specs.declared.told.Told.{Told}
-use Rattle.needs_law.specs.Lawful.{Lawful, SendsLawfully}
-use Rattle.member_resources.specs.Events.{Happens, Runs, World as Resources, holder_in}
-use Rattle.member_resources.specs.Held.{Held, begun}
-use Rattle.member_resources.specs.Lending.{lent_bytes, lent_of}
-use Rattle.member_resources.specs.Prepared.{Reserves, is_holder, setting_of}
+use Rattle.page_owners.specs.Given.{Happens, Held, Lawful, Plan, Reserves, Resources, Runs, SendsLawfully, Told, begun, cast_done as done, changes_locks, holder_in, is_holder, lent_bytes, lent_of, setting_of, touches_pages}
 use Rattle.page_owners.proofs.InX.{is_lawful}
-use Rattle.group_member.specs.Resting.{changes_locks, touches_pages}
 use Rattle.retained_pages.specs.Retained.{CommandsRetain, CommandsSpare, KeepsOwn, Retains, SparesOthers, purges}
 use Rattle.group_pages.proofs.Carry.{spares_itself}
 

@@ -13,41 +13,31 @@ use Rattle.lock_manager.specs.Claims.{mode_in}
 use Rattle.lock_manager.specs.Managers.{claims_of, held_by}
 use Rattle.facility.specs.declared.command.Reply.TheVariants as reply
 use Rattle.facility.specs.States.{Held as Facility}
+use Rattle.member_intents.specs.declared.intent.Intent.{Intent}
 use Rattle.member_intents.specs.declared.outcome.Answered.{Answered}
 use Rattle.member_intents.specs.declared.outcome.Answered.TheVariants as answered
 use Rattle.member_intents.specs.declared.outcome.Sent.{Sent}
 use Rattle.member_marks.specs.Claims.{has_page}
-use Rattle.member_resources.specs.Events.{Drive, World as Resources}
-use Rattle.member_resources.specs.Held.{Held, begun}
-use Rattle.member_resources.specs.Settled.{kept_of}
-use Rattle.needs_law.specs.Lawful.{SendsLawfully}
+use Rattle.page_owners.specs.Given.{Acts, Beside, CommandsStay, Drive, Enters, EventGoes, Group, HasCast, Held, IsRecorded, IsUp, Leads, Member, OwnClaimsStay, Plan, Rebuilds, Resources, RestartHeld, SameOthers, SendsLawfully, Tells, ToldGoes, begun, is_failure, kept_of, page_taken, told_once}
 use Rattle.rebuild_resources.specs.declared.intent.RebuildSent.{RebuildSent}
-use Rattle.group_member.specs.declared.restarting.Restarting.{Restarting as RestartHeld}
-use Rattle.group_member.specs.Entering.{Enters, told_once}
-use Rattle.group_member.specs.Happening.{Acts, Rebuilds, Tells}
-use Rattle.group_member.specs.Members.{Member}
-use Rattle.group_member.specs.Stepping.{is_failure}
-use Rattle.group_core.specs.Given.{CrewState}
+use Rattle.group_locks.specs.Given.{CrewState}
 use Rattle.lock_protocol.specs.Machine.{World as LockWorld}
 use Rattle.lock_protocol.specs.Words.{SoundGives}
 use Rattle.lock_world.specs.Books.{SlotHas}
 use Rattle.lock_world.specs.Numbers.{number}
 use Rattle.lock_world.specs.Views.{entry_in}
-use Rattle.lock_members.specs.Given.{CommandsStay}
 use Rattle.group_locks.specs.Events.{Moves, MovesSpare, OfMember}
 use Rattle.group_locks.specs.Members.{MemberStepsMoves, StepsAt}
 use Rattle.group_locks.specs.Stands.{LocksTied, MemberStands}
 use Rattle.page_protocol.specs.Moves.{World}
 use Rattle.page_world.specs.Holdings.{Holdings}
 use Rattle.page_world.specs.Numbers.{AreNumbered, page_number}
-use Rattle.page_intents.specs.Castouts.{HasCast}
-use Rattle.page_intents.specs.Stands.{IsUp}
-use Rattle.page_members.specs.Members.{Beside, EventGoes, Group, IsRecorded, Leads, SameOthers, ToldGoes, page_taken}
+use Rattle.page_numbers.specs.Recorded.{AreWhole, NumbersAreRecorded, PlanTells}
 use Rattle.page_owners.specs.Owners.{OwnInX, StayInX, ToldInX}
-use Rattle.page_rebuilds.specs.Rebuilds.{EventsGo as RebuildsGo, FollowsLogs}
-use Rattle.page_policies.specs.Locals.{OwnClaimsStay}
+use Rattle.page_rebuilds.specs.Rebuilds.{EventsGo as RebuildsGo}
 use Rattle.retained_pages.specs.Retained.{CommandsSpare, GrantsNone, ObtainsNone, Retains, SparesOthers}
 use Rattle.group_pages.specs.Events.{PageMoves}
+use Rattle.group_pages.specs.Members.{LogsLead}
 use Rattle.group_pages.specs.Stands.{CrewPages, HoldsPages, MemberPages, PagesTied, UpPages}
 use Rattle.group_pages.proofs.Carry.{IsNamed, all_named, assembled, owned_on, spares_itself}
 use Rattle.group_pages.proofs.Carry as carrying
@@ -60,6 +50,7 @@ use Rattle.group_pages.proofs.Sent.{spares_event}
 pub record Facts : Type 0 where
   pub carry : carrying.Facts
   pub event : EventGoes
+  pub recorded : NumbersAreRecorded
   pub told : ToldGoes
   pub lawful : SendsLawfully
   pub obtain : ObtainsNone
@@ -73,6 +64,10 @@ pub record Facts : Type 0 where
   pub told_x : ToldInX
   pub steps : MemberStepsMoves
   pub others : MovesSpare
+
+-- what the premise says where a number was drawn
+abbrev Drawn : Member → Answered → Intent → Plan → World → (ℕ → ℕ → List ℕ) → Type 0
+Drawn m a i p w content = (number : ℕ) → a ≡ answered.Reply (reply.Drawn number) → AreWhole w content × PlanTells m.holds i p
 
 -- ---- what a member that is up holds, once it was told of its transactions
 told_up : (g : Holdings) (forced : ℕ → ℕ) (h : Held) → IsUp g forced (kept_of h) → IsUp g forced (kept_of (told_once h))
@@ -223,17 +218,22 @@ module _ (facts : Facts) (old new : CrewState) (at : ℕ) (m n : Member) (l : Lo
     works : a ≢ answered.Failed
     works is = let failed : is_failure a ≡ true = ap is_failure is in let never : true ≡ false = sym failed ∙ unfailed in cc
 
-    acts_go : ((number : ℕ) → a ≡ answered.Reply (reply.Drawn number) → IsRecorded (begun acts.happens.ready e.place) acts.intent acts.happens.plan number e.place) → PageMoves e.left new w
-    acts_go recorded = pages_behind acts.after
+    recorded : Drawn m a acts.intent acts.happens.plan w content → (number : ℕ) → a ≡ answered.Reply (reply.Drawn number) → IsRecorded (begun acts.happens.ready e.place) acts.intent acts.happens.plan number e.place
+    recorded tells number is =
+        let known = tells number is in
+        facts.recorded w u v g content forced m.holds acts.after acts.intent e.place s a number beside.begins known.0 acts.happens known.1 is
+
+    acts_go : Drawn m a acts.intent acts.happens.plan w content → PageMoves e.left new w
+    acts_go tells = pages_behind acts.after
         (facts.event w u v g content forced m.holds acts.after acts.intent e.place s a beside acts.happens
-        (record { distinct = stood.book.once 0; free = λ page version taken granted none. free page version taken granted none (g.owner (page_number page)) refl; recorded = recorded; works = works }))
+        (record { distinct = stood.book.once 0; free = λ page version taken granted none. free page version taken granted none (g.owner (page_number page)) refl; recorded = recorded tells; works = works }))
         (spares_event facts.spare u v m.holds acts.after acts.intent e.place s a acts.happens)
         (facts.in_x u v m.holds acts.after acts.intent e.place s a acts.happens pages.in_x) left_holds
 
 pub own_steps : (facts : Facts) (old new : CrewState) (at : ℕ) (m n : Member) (l : LockWorld) (w : World) → LocksTied old l → (e : StepsAt old new at m n) → (t : PagesTied e.drive old w)
     → (mid : Member) (s : Sent) (a : Answered) (acts : Acts m (record { facility = old.facility; drive = e.drive }) e.place s a (record { facility = new.facility; drive = e.left }) mid) → Enters mid old.fates n new.fates → is_failure a ≡ false
-    → ((number : ℕ) → a ≡ answered.Reply (reply.Drawn number) → IsRecorded (begun acts.happens.ready e.place) acts.intent acts.happens.plan number e.place) → PageMoves e.left new w
-own_steps facts old new at m n l w locks e t mid s a acts enters unfailed recorded = acts_go facts old new at m n l w t.holdings t.versions t.forced locks e t.pages mid s a acts enters unfailed recorded
+    → Drawn m a acts.intent acts.happens.plan w t.versions → PageMoves e.left new w
+own_steps facts old new at m n l w locks e t mid s a acts enters unfailed tells = acts_go facts old new at m n l w t.holdings t.versions t.forced locks e t.pages mid s a acts enters unfailed tells
 
 -- ---- a member that is up is told of its restart or its rebuild
 pub record ToldFacts : Type 0 where
@@ -288,9 +288,9 @@ told_go facts e new ms at place m n w g content forced after stands p named page
 
 -- ---- the event of its rebuild
 module _ (facts : Facts) (rebuild : RebuildsGo) (stay : CommandsStay) (old new : CrewState) (at : ℕ) (m n : Member) (l : LockWorld) (w : World) (g : Holdings) (content : ℕ → ℕ → List ℕ) (forced : ℕ → ℕ) (t : LocksTied old l) (e : StepsAt old new at m n) (p : CrewPages e.drive old.facility old.members w g content forced)
-    (mid : Member) (s : RebuildSent) (a : Answered) (made : Rebuilds m (record { facility = old.facility; drive = e.drive }) e.place s a (record { facility = new.facility; drive = e.left }) mid) (enters : Enters mid old.fates n new.fates) (unfailed : is_failure a ≡ false) (follows : FollowsLogs w g content made.makes.before.resources s a) where
+    (mid : Member) (s : RebuildSent) (a : Answered) (made : Rebuilds m (record { facility = old.facility; drive = e.drive }) e.place s a (record { facility = new.facility; drive = e.left }) mid) (enters : Enters mid old.fates n new.fates) (unfailed : is_failure a ≡ false) (lead : LogsLead w g content made.makes.before.resources s) where
   now : RebuildLeft e.left new.facility old.members w g content forced
-  now = rebuilt rebuild stay facts.carry (record { facility = old.facility; drive = e.drive }) (record { facility = new.facility; drive = e.left }) old.members w g content forced made.makes.before.resources made.reached.resources s a (all_named old.facility old.members t.stands) p made.makes.happens follows
+  now = rebuilt rebuild stay facts.carry (record { facility = old.facility; drive = e.drive }) (record { facility = new.facility; drive = e.left }) old.members w g content forced made.makes.before.resources made.reached.resources s a (all_named old.facility old.members t.stands) p made.makes.happens unfailed lead
 
   back : ToldBehind m e.place n
   back = told_behind m mid n e.place made.reached (is_failure a) old.fates new.fates unfailed made.ends enters
@@ -311,5 +311,5 @@ module _ (facts : Facts) (rebuild : RebuildsGo) (stay : CommandsStay) (old new :
 
 pub rebuild_steps : (facts : Facts) → RebuildsGo → CommandsStay → (old new : CrewState) (at : ℕ) (m n : Member) (l : LockWorld) (w : World) → LocksTied old l → (e : StepsAt old new at m n) → (t : PagesTied e.drive old w)
     → (mid : Member) (s : RebuildSent) (a : Answered) (made : Rebuilds m (record { facility = old.facility; drive = e.drive }) e.place s a (record { facility = new.facility; drive = e.left }) mid) → Enters mid old.fates n new.fates → is_failure a ≡ false
-    → FollowsLogs w t.holdings t.versions made.makes.before.resources s a → PageMoves e.left new w
-rebuild_steps facts rebuild stay old new at m n l w locks e t mid s a made enters unfailed follows = rebuilds_go facts rebuild stay old new at m n l w t.holdings t.versions t.forced locks e t.pages mid s a made enters unfailed follows
+    → LogsLead w t.holdings t.versions made.makes.before.resources s → PageMoves e.left new w
+rebuild_steps facts rebuild stay old new at m n l w locks e t mid s a made enters unfailed lead = rebuilds_go facts rebuild stay old new at m n l w t.holdings t.versions t.forced locks e t.pages mid s a made enters unfailed lead

@@ -1,7 +1,7 @@
 -- What an event of a group is in the world of pages.
 use Rattle.std.specs.Prelude.{List}
-use Rattle.member_resources.specs.Events.{Drive}
-use Rattle.group_core.specs.Given.{CrewState}
+use Rattle.page_owners.specs.Given.{Drive}
+use Rattle.group_locks.specs.Given.{CrewState}
 use Rattle.page_protocol.specs.Moves.{Move, Run, World}
 use Rattle.page_world.specs.Numbers.{set_of}
 use Rattle.group_pages.specs.Stands.{PagesTied}

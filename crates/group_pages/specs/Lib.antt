@@ -1,3 +1,5 @@
 pub mod Stands
 pub mod Events
 pub mod Members
+pub mod Newest
+pub mod Given

@@ -3,25 +3,16 @@ use Rattle.std.specs.Prelude.{◌≡◌, ◌⊎◌, ℕ, ◌+◌, ◌≤◌, tru
 use Rattle.list_structure.specs.declared.standing.MemberStatus.TheVariants.{Restarting, Up}
 use Rattle.list_structure.specs.Standings.{is_live, status_of}
 use Rattle.facility.specs.States.{Held as Facility}
-use Rattle.member_resources.specs.Events.{Drive}
-use Rattle.member_resources.specs.Held.{Held}
-use Rattle.member_resources.specs.Settled.{kept_of}
-use Rattle.restart_marks.specs.State.{RestartState}
-use Rattle.restart_resources.specs.Held.{Held as RestartHolds}
-use Rattle.group_member.specs.declared.restarting.Restarting.{Restarting as RestartHeld}
-use Rattle.group_member.specs.Members.{Member}
-use Rattle.group_core.specs.Given.{CrewState}
+use Rattle.page_owners.specs.Given.{Drive, Group, HasCast, Held, IsUp, Member, RestartHeld, Shows, kept_of}
+use Rattle.restart_owners.specs.Given.{IsRestarting, RestartHolds, RestartState, reading}
+use Rattle.group_locks.specs.Given.{CrewState}
 use Rattle.page_protocol.specs.Moves.{World}
 use Rattle.page_world.specs.Holdings.{Holdings, no_copy}
-use Rattle.page_intents.specs.Castouts.{HasCast}
-use Rattle.page_intents.specs.Stands.{IsUp}
-use Rattle.page_members.specs.Members.{Group, Shows}
-use Rattle.page_restarts.specs.Reading.{reading}
-use Rattle.page_restarts.specs.Stands.{IsRestarting}
 use Rattle.page_owners.specs.Owners.{OwnInX}
 use Rattle.page_owners.specs.Resting.{IsBare}
 use Rattle.restart_owners.specs.Listing.{IsListing}
 use Rattle.restart_owners.specs.Owners.{OwnsFailed, OwnsRestarting}
+use Rattle.restart_owners.specs.Undrawn.{IsUndrawn}
 
 -- ---- a member
 
@@ -38,12 +29,13 @@ pub record IsUnread (g : Holdings) (s : RestartState) : Type 0 where
   pub rest : s ≡ reading s.member s.own
 
 -- its restart is in hand, whether it reads the log yet or has read it: it owns the page whose lock the restart has, and pages whose locks are
--- retained, of which the restart knows what it has listed
+-- retained, of which the restart knows what it has listed; and it draws no number before all of these are recovered
 pub record RestartPages (g : Holdings) (forced : ℕ → ℕ) (h : RestartHolds) : Type 0 where
   pub restarts : IsRestarting g forced h
   pub stage : IsUnread g h.marks ⊎ (h.marks.own.is_read ≡ true)
   pub owns : OwnsRestarting g.facility g.owner h.marks
   pub lists : IsListing g.facility h.marks
+  pub undrawn : IsUndrawn g h.marks
 
 -- it has failed: the group holds of it what is on disk, and its page locks are retained
 pub record DownPages (g : Holdings) (k : ℕ) : Type 0 where
@@ -54,8 +46,8 @@ pub record DownPages (g : Holdings) (k : ℕ) : Type 0 where
 -- by its standing: this is what the group holds of the member of this number, which holds this, beside its restart
 pub record HoldsPages (g : Holdings) (forced : ℕ → ℕ) (k : ℕ) (h : Held) (r : Option RestartHeld) : Type 0 where
   pub up : status_of g.facility.lists.statuses k ≡ Up → UpPages g forced h
-  pub restarts : status_of g.facility.lists.statuses k ≡ Restarting → IfSome r (λ (q : RestartHeld). RestartPages g forced q.resources) × IsBare h.marks × HasCast g k h.cast h.buffer
-  pub down : is_live (status_of g.facility.lists.statuses k) ≡ false → DownPages g k × IsBare h.marks × HasCast g k h.cast h.buffer
+  pub restarts : status_of g.facility.lists.statuses k ≡ Restarting → IfSome r (λ (q : RestartHeld). RestartPages g forced q.resources) × IsBare h × HasCast g k h.cast h.buffer
+  pub down : is_live (status_of g.facility.lists.statuses k) ≡ false → DownPages g k × IsBare h × HasCast g k h.cast h.buffer
 
 abbrev pub MemberPages : Holdings → (ℕ → ℕ) → ℕ → Member → Type 0
 MemberPages g forced k m = HoldsPages g forced k m.holds m.restart

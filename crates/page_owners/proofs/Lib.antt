@@ -7,3 +7,4 @@ pub mod Resting
 pub mod Bare
 pub mod Casting
 pub mod Keeping
+pub mod Given

@@ -3,3 +3,4 @@ pub mod Groups
 pub mod Runs
 pub mod Resting
 pub mod Casting
+pub mod Given

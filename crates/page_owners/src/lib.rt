@@ -11,15 +11,18 @@ ghost use Rattle.page_owners.specs.Resting.{DownIsBare, RestsBare, RestsLeave};
 ghost use Rattle.page_owners.specs.Runs.{RunsStand};
 
 use cache_structure::keeps_entries_apart;
+pub use lock_events::commands_stay;
 use lock_events::events_go as locks_go;
 use lock_protocol::{claims_give, keeps_sound, moves_leave_others};
 use lock_world::{books_tell, failures_are_moves, groups_begin};
 use marks_law::{claims_stay, slots_stay};
-use needs_law::sends_lawfully;
-use page_groups::{events_go as pages_go, failures_go, groups_stand, groups_start as pages_start};
+pub use needs_law::sends_lawfully;
+use page_groups::{events_go as pages_go, groups_stand, groups_start as pages_start};
+pub use page_groups::{failures_go, groups_fall};
 use page_intents::castouts_go;
 use page_members::{commands_leave, writes_show};
-use page_policies::own_claims_stay;
+pub use page_members::{events_go, others_stay_up, restarts_go};
+pub use page_policies::own_claims_stay;
 use page_protocol::coherent_pages;
 use page_world::pages_have_numbers;
 

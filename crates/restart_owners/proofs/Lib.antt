@@ -8,3 +8,4 @@ pub mod Going
 pub mod Ending
 pub mod Stages
 pub mod Undrawn
+pub mod Given

@@ -4,3 +4,4 @@ pub mod Events
 pub mod Ends
 pub mod Stages
 pub mod Undrawn
+pub mod Given

@@ -13,12 +13,12 @@ ghost use Rattle.restart_owners.specs.Stages.{StageBegins, StageCasts, StageEnds
 ghost use Rattle.restart_owners.specs.Undrawn.{UndrawnBegins, UndrawnCasts, UndrawnGoes, UndrawnStays, UndrawnTells};
 
 use lock_protocol::{claims_give, keeps_sound, moves_leave_others};
+pub use lock_restarts::{local_moves_stay, restarts_follow};
 use lock_restarts::{restarts_go, sends_lawfully};
 use lock_world::names_have_numbers;
 use page_protocol::coherent_pages;
-use page_restarts::{
-    ends_go as pages_end, events_go as pages_go, own_still_restarts, owners_go, readings_go,
-};
+use page_restarts::{ends_go as pages_end, events_go as pages_go, own_still_restarts, owners_go};
+pub use page_restarts::{others_still_restart, readings_go};
 use page_world::pages_have_numbers;
 use retained_pages::{commands_retain, retained_pages_keep_out};
 

@@ -8,8 +8,10 @@ returns c = member_steps (record {
     restart = c.others_still_restart.ensures;
     own = c.failures_retain.ensures.other;
     list = c.restarts_list.ensures.other;
+    undrawn = c.restarts_stay_undrawn.ensures.other;
   };
   event = c.events_go.ensures.event;
+  recorded = c.numbers_are_recorded.ensures;
   told = c.events_go.ensures.told;
   lawful = c.sends_lawfully.ensures;
   obtain = c.retained_pages_keep_out.ensures.obtain;
