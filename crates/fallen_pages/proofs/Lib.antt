@@ -1,0 +1,10 @@
+pub mod Worlds
+pub mod Course
+pub mod Same
+pub mod Told
+pub mod Calls
+pub mod Anew
+pub mod Steps
+pub mod Looked
+pub mod Taken
+pub mod Whole
