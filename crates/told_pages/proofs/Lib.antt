@@ -1,0 +1,8 @@
+mod Moves
+mod Runs
+mod Failing
+mod Commands
+mod Puts
+mod Disk
+mod Lasts
+mod Events
