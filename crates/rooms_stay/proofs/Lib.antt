@@ -1,0 +1,13 @@
+mod Room
+mod Slots
+mod Effects
+mod Locals
+mod Events
+mod Commands
+mod Members
+mod Groups
+mod Runs
+mod Left
+mod OfRestart
+mod OfRebuild
+mod Refused

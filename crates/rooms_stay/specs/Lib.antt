@@ -1,0 +1,4 @@
+pub mod Rooms
+pub mod Left
+pub mod Runs
+pub mod Refused
