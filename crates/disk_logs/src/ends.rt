@@ -1,10 +1,10 @@
 //! Where the whole records of logs end, which are read by blocks.
 
-ghost use Rattle.std.specs.Prelude.{◌≡◌, ◌↔◌, ◌+◌, ◌≤◌, ◌<◌, ◌^◌, nat_lt, [], ◌∷◌, ◌++◌, length, drop, IfOk, IfSome, IsTrue, OnOk};
+ghost use Rattle.std.specs.Prelude.{◌≡◌, ◌↔◌, ◌+◌, ◌≤◌, ◌<◌, ◌^◌, nat_lt, [], ◌∷◌, ◌++◌, length, drop, IfOk, IsTrue, OnOk};
 ghost use Rattle.ds_disk.specs.Contents.{log_of};
 ghost use Rattle.ds_model.specs.Logs.{IsTorn};
 ghost use Rattle.disk_heads.specs.Records.{IsSound};
-ghost use Rattle.disk_logs.specs.Ends.{GoesOn, IsPassed, Passes, IsCounted, IsReached, IsEnd, ended_at, AreWholeTo, AreEnds, AreOf32};
+ghost use Rattle.disk_logs.specs.Ends.{GoesOn, IsPassed, Passes, IsCounted, IsReached, IsEnd, ended_at, AreEnds, AreOf32};
 ghost use Rattle.disk_logs.specs.Looking.{Reads};
 
 use crate::logs::zeros;
@@ -245,15 +245,4 @@ pub fn find_all_ends<D: Disk>(alloc: Global, disk: &mut D) -> Result<Ends, DiskE
 {
     let mut block = block_of(alloc)?;
     all_ends(alloc, disk, &mut block)
-}
-
-/// Where the whole records of all logs end, by the order of the members; or nothing, where one breaks off.
-pub fn find_ends<D: Disk>(alloc: Global, disk: &mut D) -> Result<Option<Vec<u64>>, DiskError>
-    ensures ends { Reads (D.contents disk.old) (D.contents disk.new) (D.faults disk.old) (D.faults disk.new) (λ found c. IfSome found (λ ends. AreWholeTo c.logs ends.items)) result }
-    ensures count { IfOk result (λ found. IfSome found (λ ends. length ends.items ≡ 32)) }
-{
-    match find_all_ends(alloc, disk)? {
-        Ends::Whole { ends } => Ok(Some(ends)),
-        Ends::Broken { .. } => Ok(None),
-    }
 }

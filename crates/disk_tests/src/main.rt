@@ -5,17 +5,11 @@
 #[cfg(test)]
 mod blanks;
 #[cfg(test)]
-mod checkpoints;
-#[cfg(test)]
 mod disks;
 #[cfg(test)]
 mod fronts;
 #[cfg(test)]
-mod kept;
-#[cfg(test)]
 mod records;
-#[cfg(test)]
-mod settled;
 #[cfg(test)]
 mod spots;
 #[cfg(test)]

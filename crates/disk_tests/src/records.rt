@@ -15,7 +15,6 @@ pub enum Told {
     /// A row of table 1 was changed, and is absent before and after.
     Change { key: u64, page: u32 },
     Commit,
-    Checkpoint { offset: u64 },
 }
 
 impl Told {
@@ -31,7 +30,6 @@ impl Told {
                 },
             },
             Told::Commit => Body::Commit,
-            Told::Checkpoint { offset } => Body::Checkpoint { offset },
         }
     }
 }

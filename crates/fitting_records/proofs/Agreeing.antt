@@ -1,6 +1,6 @@
 -- What is seen of the numbers of a range is what is seen of all of them.
-use Rattle.std.proofs.Common.{◌≡◌, ℕ, ◌+◌, ◌<◌, ◌≤◌, Bool, true, false, cond, List, [], ◌∷◌, ◌++◌, Option, Some, None, refl, sym, ap, subst, ◌∙◌, arith}
-use Rattle.std.specs.Prelude.{◌==◌, nat_le, nat_lt, not, ◌||◌, ◌&&◌, is_some}
+use Rattle.std.proofs.Common.{◌≡◌, ℕ, ◌+◌, ◌≤◌, Bool, true, false, cond, List, [], ◌∷◌, ◌++◌, Option, Some, None, refl, sym, ap, subst, ◌∙◌, arith}
+use Rattle.std.specs.Prelude.{◌==◌, not, ◌||◌, ◌&&◌, is_some}
 use Rattle.std.specs.Ordering.{nat_cmp}
 use Rattle.std.specs.FinMap.{FinMap, get, insert, get-empty}
 use Rattle.std.proofs.lemmas.Bool.Decides.{nat_tests}
@@ -8,11 +8,10 @@ use Rattle.ds_model.specs.declared.log.LogRecord.{LogRecord}
 use Rattle.log_record.specs.Changes.{is_drawn}
 use Rattle.sound_disk.specs.Transactions.{speak_of}
 use Rattle.fitting_records.specs.declared.standing.Standing.{Standing}
-use Rattle.fitting_records.specs.declared.seen.Seen.{Seen}
 use Rattle.fitting_records.specs.declared.ranged.NumberRange.{NumberRange}
 use Rattle.fitting_records.specs.declared.ranged.RangeSeen.{RangeSeen}
 use Rattle.fitting_records.specs.Standings.{after_body}
-use Rattle.fitting_records.specs.Fitting.{Numbers, nothing_seen, is_new, is_home, follows_on, follows, fits, standing_of, seen_with, behind_log}
+use Rattle.fitting_records.specs.Fitting.{Seen, Numbers, nothing_seen, is_new, is_home, follows_on, follows, fits, standing_of, seen_with, behind_log}
 use Rattle.fitting_records.specs.Ranges.{Homes, is_in, nothing_in, is_new_in, is_own, is_home_in, fits_in, entered, noted, left_behind}
 use Rattle.fitting_records.proofs.Knowing.{put_at, has_put, speak_more, trans_has}
 use Rattle.fitting_records.proofs.Taking.{and_left, and_right, and_both}

@@ -1,5 +1,5 @@
 -- The first record that doesn't fit by what is seen is the first that breaks the clause.
-use Rattle.std.proofs.Common.{◌≡◌, ℕ, ◌+◌, Bool, true, false, cond, List, [], ◌∷◌, ◌++◌, length, Option, Some, None, Result, Ok, Err, IfOk, IfSome, IfNone, refl, sym, ap, subst, ◌∙◌, arith, append_assoc, length-append}
+use Rattle.std.proofs.Common.{◌≡◌, ℕ, ◌+◌, Bool, true, false, cond, List, [], ◌∷◌, ◌++◌, length, Option, Some, None, Result, Ok, Err, refl, sym, ap, subst, ◌∙◌, arith, append_assoc, length-append}
 use Rattle.std.proofs.lemmas.Grind.{flat_map-append}
 use Rattle.std.proofs.lemmas.List.{append-nil}
 use Rattle.ds_model.specs.declared.log.LogRecord.{LogRecord}
@@ -9,9 +9,8 @@ use Rattle.log_merge.specs.Merging.{all_records}
 use Rattle.disk_spots.specs.declared.spot.Spot.{Spot}
 use Rattle.disk_spots.specs.declared.spot.Spot.TheVariants as spot
 use Rattle.sound_disk.specs.Transactions.{AreTransactions}
-use Rattle.fitting_records.specs.declared.seen.Seen.{Seen}
 use Rattle.fitting_records.specs.Breaches.{cut_to, IsFirstBreach, IsRecordOf}
-use Rattle.fitting_records.specs.Fitting.{nothing_seen, fits, seen_with, behind_log, fitted_from, goes_on, unfit_among}
+use Rattle.fitting_records.specs.Fitting.{Seen, nothing_seen, fits, seen_with, behind_log, fitted_from, goes_on, unfit_among}
 use Rattle.fitting_records.proofs.Knowing.{Knows, knows_none, knows_more, knows_behind, stands_where_it_fits, fits_where_it_stands}
 use Rattle.fitting_records.specs.Telling.{AreFitTold}
 use Rattle.fitting_records.proofs.Fronts.{records_with, Fits, fits_begin, fits_whole, whole_fits, fits_more, last_may_stand, fits_less, front_holds}
@@ -133,18 +132,6 @@ logs_told logs = all_told [] logs nothing_seen knows_none none_hold
 one_told : (logs : List Log) (o : Option Spot) → o ≡ unfit_among nothing_seen logs → Told logs o
 one_told logs o e = subst (λ (x : Option Spot). Told logs x) (sym e) (logs_told logs)
 
-pub told_none : {E : Type 0} (logs : List Log) (result : Result (Option Spot) E) → IfOk result (λ found. found ≡ unfit_among nothing_seen logs)
-    → IfOk result (λ found. IfNone found (AreTransactions logs))
-told_none logs (Ok None) e = one_told logs None e
-told_none logs (Ok (Some s)) e = tt
-told_none logs (Err x) e = tt
-
-pub told_first : {E : Type 0} (logs : List Log) (result : Result (Option Spot) E) → IfOk result (λ found. found ≡ unfit_among nothing_seen logs)
-    → IfOk result (λ found. IfSome found (λ spot. IsRecordOf (IsFirstBreach AreTransactions logs) spot))
-told_first logs (Ok None) e = tt
-told_first logs (Ok (Some s)) e = one_told logs (Some s) e
-told_first logs (Err x) e = tt
-
 -- ---- logs with a breach
 
 whole_breach : (logs : List Log) (member at : ℕ) → IsFirstBreach AreTransactions logs member at → AreTransactions logs → ⊥
@@ -159,12 +146,6 @@ whole_breach logs member at b h =
 record_breach : (logs : List Log) (s : Spot) → IsRecordOf (IsFirstBreach AreTransactions logs) s → AreTransactions logs → ⊥
 record_breach logs (spot.Page id) h k = absurd h
 record_breach logs (spot.Log member at) h k = whole_breach logs member at h k
-
-pub told_some : {E : Type 0} (logs : List Log) (result : Result (Option Spot) E) → IfOk result (λ found. found ≡ unfit_among nothing_seen logs)
-    → IfOk result (λ found. IfSome found (λ spot. AreTransactions logs → ⊥))
-told_some logs (Ok None) e = tt
-told_some logs (Ok (Some s)) e = record_breach logs s (one_told logs (Some s) e)
-told_some logs (Err x) e = tt
 
 -- what is told of the first record that doesn't fit
 pub fit_told : (logs : List Log) (o : Option Spot) → o ≡ unfit_among nothing_seen logs → AreFitTold o logs

@@ -1,10 +1,9 @@
 -- Records that are passed by the order of their numbers: one more.
 use Rattle.std.proofs.Common.{◌≡◌, ◌≢◌, ◌⊎◌, inl, inr, ℕ, zero, suc, ◌-◌, ◌<◌, ◌≤◌, Bool, true, false, cond, List, [], ◌∷◌, ◌++◌, length, Option, Some, None, refl, sym, ap, subst, ◌∙◌, arith, append_assoc}
-use Rattle.std.specs.Prelude.{◌==◌, nat_lt, not, ◌||◌, ◌&&◌, max}
-use Rattle.std.specs.List.{AllByRecursion, list_any}
-use Rattle.std.specs.Ordering.{nat_cmp}
+use Rattle.std.specs.Prelude.{◌==◌, nat_lt, not, ◌||◌, ◌&&◌}
+use Rattle.std.specs.List.{AllByRecursion}
 use Rattle.std.specs.Cmp.{nat_cmp_total}
-use Rattle.std.specs.FinMap.{FinMap, get, insert, remove, get-remove, get-empty}
+use Rattle.std.specs.FinMap.{get, insert, remove, get-remove}
 use Rattle.std.proofs.lemmas.Bool.{ltb-true, ltb-false}
 use Rattle.std.proofs.lemmas.Bool.Decides.{nat_tests}
 use Rattle.std.proofs.lemmas.List.{append-nil}
@@ -25,7 +24,7 @@ use Rattle.fitting_records.specs.declared.standing.Standing.{Standing}
 use Rattle.fitting_records.specs.declared.passing.OpenTran.{OpenTran}
 use Rattle.fitting_records.specs.declared.passing.Passing.{Passing}
 use Rattle.fitting_records.specs.Standings.{new_standing, may_take, after_body, standing}
-use Rattle.fitting_records.specs.Passings.{OpenTrans, nothing_passed, is_apart, closes, begins, goes_on, may_pass, standing_in, gone_on, trans_with, greater, passed}
+use Rattle.fitting_records.specs.Passings.{OpenTrans, is_apart, closes, begins, goes_on, may_pass, standing_in, gone_on, trans_with, greater, passed}
 use Rattle.fitting_records.specs.Passed.{list_at, all_of, with_record, is_early, are_early, IsOpen, ArePassed}
 use Rattle.fitting_records.proofs.Taking.{and_left, and_right, and_both, MayTake, may_take_is, stands_after}
 use Rattle.fitting_records.proofs.Knowing.{same_key, put_at, drawn_more, speak_more, course_last}
@@ -38,9 +37,6 @@ equal m n e = grind (arith, nat_tests)
 
 pub itself : (n : ℕ) → (n == n) ≡ true
 itself n = grind (arith, nat_tests)
-
-unlike : (m n : ℕ) → (m == n) ≡ false → m ≢ n
-unlike m n e = λ same. grind (arith, nat_tests)
 
 turned : (m n : ℕ) → (m == n) ≡ false → (n == m) ≡ false
 turned m n e = grind (arith, nat_tests)
@@ -118,11 +114,6 @@ at_each (l ∷ ls) (suc k) r (suc i) h = more (at_each ls k r i (omega (arith, h
         → ((suc i ≡ suc k) × (list_at (with_record ls k r) i ≡ list_at ls k ++ r ∷ [])) ⊎ ((suc i ≢ suc k) × (list_at (with_record ls k r) i ≡ list_at ls i))
     more (inl p) = inl (ap suc p.0, p.1)
     more (inr p) = inr (λ e. p.0 (omega (arith, e)), p.1)
-
-count_with : (ls : List (List LogRecord)) (k : ℕ) (r : LogRecord) → length (with_record ls k r) ≡ length ls
-count_with [] k r = refl
-count_with (l ∷ ls) zero r = refl
-count_with (l ∷ ls) (suc k) r = ap suc (count_with ls k r)
 
 -- who speaks of a transaction then
 spoken_by : (t i k : ℕ) (before now : List LogRecord) (own : List LogRecord) (r : LogRecord) → ((i ≡ k) × (now ≡ own ++ r ∷ [])) ⊎ ((i ≢ k) × (now ≡ before)) → (i ≡ k → before ≡ own) → speak_of t now ≡ true

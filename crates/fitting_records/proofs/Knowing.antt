@@ -14,9 +14,8 @@ use Rattle.log_trans.specs.Courses as courses
 use Rattle.log_trans.specs.Courses.{new_course}
 use Rattle.sound_disk.specs.Transactions.{drawn_numbers, is_among, speak_of, course_in, MayFollow}
 use Rattle.fitting_records.specs.declared.standing.Standing.{Standing}
-use Rattle.fitting_records.specs.declared.seen.Seen.{Seen}
 use Rattle.fitting_records.specs.Standings.{new_standing, may_take, after_body, standing}
-use Rattle.fitting_records.specs.Fitting.{Numbers, nothing_seen, is_new, is_home, is_first, follows_on, follows, fits, standing_of, seen_with, trans_of, behind_log}
+use Rattle.fitting_records.specs.Fitting.{Seen, Numbers, nothing_seen, is_new, is_home, is_first, follows_on, follows, fits, standing_of, seen_with, trans_of, behind_log}
 use Rattle.fitting_records.proofs.Taking.{and_left, and_right, and_both, MayTake, may_take_is, is_taken, stands_after}
 
 -- ---- tests

@@ -4,8 +4,6 @@ pub mod Fronts
 pub mod Firsts
 mod Going
 mod Passes
-pub mod Noting
-mod Walking
 mod Joined
 mod Summing
 mod Seeking

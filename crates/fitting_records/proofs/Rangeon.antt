@@ -1,5 +1,5 @@
 -- The records of a log that are taken for a range, and the logs one after the other.
-use Rattle.std.proofs.Common.{◌≡◌, ℕ, ◌+◌, List, [], ◌∷◌, length, Option, Some, None, Result, Ok, Err, refl, sym, ap, ◌∙◌}
+use Rattle.std.proofs.Common.{◌≡◌, ℕ, ◌+◌, List, ◌∷◌, length, Option, Ok, sym, ap, ◌∙◌}
 use Rattle.ds_disk.specs.Contents.{Contents}
 use Rattle.ds_model.specs.declared.log.LogRecord.{LogRecord}
 use Rattle.ds_model.specs.RecordBytes.{record_bytes}

@@ -1,25 +1,22 @@
 -- The first record that doesn't fit, found by range after range.
-use Rattle.std.proofs.Common.{◌≡◌, ℕ, zero, suc, ◌+◌, ◌<◌, ◌≤◌, Bool, true, false, cond, List, [], ◌∷◌, ◌++◌, length, Option, Some, None, Result, Ok, Err, refl, sym, ap, subst, ◌∙◌, arith, append_assoc}
-use Rattle.std.specs.Prelude.{◌==◌, nat_le, nat_lt, not, ◌||◌, ◌&&◌}
+use Rattle.std.proofs.Common.{◌≡◌, ℕ, ◌+◌, ◌<◌, ◌≤◌, Bool, true, false, cond, List, [], ◌∷◌, ◌++◌, length, Option, Some, None, Result, Ok, Err, refl, sym, ap, subst, ◌∙◌, arith, append_assoc}
+use Rattle.std.specs.Prelude.{nat_le, nat_lt, ◌||◌}
 use Rattle.std.proofs.lemmas.Bool.Decides.{nat_tests}
 use Rattle.std.proofs.lemmas.List.{append-nil}
-use Rattle.ds_disk.specs.Contents.{Contents, WhenTold}
-use Rattle.ds_disk.specs.declared.disk.DiskError.{DiskError}
+use Rattle.ds_disk.specs.Contents.{Contents}
 use Rattle.ds_model.specs.declared.log.LogRecord.{LogRecord}
 use Rattle.ds_model.specs.RecordBytes.{record_bytes}
 use Rattle.log_record.specs.declared.log.Log.{Log}
-use Rattle.sound_disk.specs.Transactions.{AreTransactions}
-use Rattle.sound_disk.specs.Whole_logs.{IsWholeLog, AreWholeLogs}
+use Rattle.sound_disk.specs.Whole_logs.{AreWholeLogs}
 use Rattle.disk_spots.specs.declared.spot.Spot.{Spot}
 use Rattle.disk_spots.specs.declared.spot.Spot.TheVariants as spot
 use Rattle.disk_walk.specs.Reading.{Reads}
 use Rattle.disk_walk.specs.Whole.{OfWholeLogs}
 use Rattle.disk_walk.proofs.One.{reads_on, reads_to, reads_none}
-use Rattle.fitting_records.specs.declared.seen.Seen.{Seen}
 use Rattle.fitting_records.specs.declared.ranged.NumberRange.{NumberRange}
 use Rattle.fitting_records.specs.declared.ranged.Place.{Place}
 use Rattle.fitting_records.specs.declared.ranged.RangeSeen.{RangeSeen}
-use Rattle.fitting_records.specs.Fitting.{nothing_seen, is_new, fits, seen_with, behind_log, fitted_from, goes_on, unfit_among}
+use Rattle.fitting_records.specs.Fitting.{Seen, nothing_seen, is_new, fits, seen_with, behind_log, fitted_from, goes_on, unfit_among}
 use Rattle.fitting_records.specs.Ranges.{is_in, nothing_in, fits_in, entered, found_at, tried_when, least_with, next_with, noted, range_with, range_from, left_behind, range_among, is_sooner, sooner}
 use Rattle.fitting_records.specs.Ranging.{spot_at, IsRangedBy, IsSearched}
 use Rattle.fitting_records.specs.Telling.{AreFitTold}
@@ -340,9 +337,6 @@ sooner_from x (Some p) (Some q) h k = by_test (is_sooner q p)
     by_test : (c : Bool) → IsFrom x (cond c (Some q) (Some p))
     by_test true = k
     by_test false = h
-
-some_spot : (p : Place) (x : Option Spot) → spot_at (Some p) ≡ x → x ≡ Some (spot.Log p.member p.at)
-some_spot p x e = sym e
 
 sooner_first : (x : Option Spot) (a b : Option Place) → IsFrom x b → spot_at a ≡ x → spot_at (sooner a b) ≡ x
 sooner_first x None None k e = e

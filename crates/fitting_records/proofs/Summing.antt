@@ -1,7 +1,7 @@
 -- Records of all logs that are taken one after the other, and what they come to.
-use Rattle.std.proofs.Common.{◌≡◌, ℕ, zero, suc, ◌+◌, ◌-◌, ◌<◌, ◌≤◌, max, Bool, true, false, List, [], ◌∷◌, ◌++◌, length, map, take, get_or, set, slice_get, Option, Some, None, Result, Ok, Err, refl, sym, ap, subst, ◌∙◌, arith, append_assoc}
+use Rattle.std.proofs.Common.{◌≡◌, ℕ, suc, ◌+◌, ◌-◌, ◌<◌, ◌≤◌, max, Bool, true, false, List, [], ◌∷◌, ◌++◌, length, map, take, get_or, set, slice_get, Option, Some, refl, sym, ap, subst, ◌∙◌, arith, append_assoc}
 use Rattle.std.specs.Prelude.{◌||◌, ◌&&◌, not}
-use Rattle.std.specs.List.{list_any, AllByRecursion}
+use Rattle.std.specs.List.{AllByRecursion}
 use Rattle.std.proofs.lemmas.List.{append-nil, take_at, length-append}
 use Rattle.std.proofs.lemmas.List.Folds.{list_any-append}
 use Rattle.ds_disk.specs.Contents.{Contents, WhenTold, Becomes, Same}
@@ -14,8 +14,7 @@ use Rattle.log_heads.specs.Logs.{left, together, NoneFalls, IsTaken}
 use Rattle.log_merge.specs.Merging.{all_records}
 use Rattle.log_trans.specs.Numbers.{greatest}
 use Rattle.restart_plan.specs.Opened.{is_end}
-use Rattle.restart_plan.specs.Renewal.{is_old, is_ended, asks_renewal, must_renew}
-use Rattle.sound_disk.specs.Transactions.{AreTransactions}
+use Rattle.restart_plan.specs.Renewal.{is_old, is_ended, must_renew}
 use Rattle.sound_disk.specs.Whole_logs.{IsWholeLog, AreWholeLogs}
 use Rattle.disk_walk.specs.declared.walk.Next.{Next}
 use Rattle.disk_walk.specs.declared.walk.Next.TheVariants as next
@@ -24,9 +23,8 @@ use Rattle.disk_walk.proofs.Reading.{told_before, told_all, told_by, told_by_bot
 use Rattle.fitting_records.specs.declared.passing.Passing.{Passing}
 use Rattle.fitting_records.specs.declared.sums.Sums.{Sums}
 use Rattle.fitting_records.specs.declared.summary.Summary.{Summary}
-use Rattle.fitting_records.specs.Passings.{nothing_passed, may_pass, passed}
 use Rattle.fitting_records.specs.Passed.{list_at, all_of, with_record, are_early, ArePassed, NothingIsPassed, PassingGoesOn, PassedAreTransactions}
-use Rattle.fitting_records.specs.Summed.{any_asks, has_old, has_ended, IsNothing, IsPassedOn, IsAdded, AreSummed, AreSummedOf, IsSummedUp}
+use Rattle.fitting_records.specs.Summed.{any_asks, has_old, has_ended, IsNothing, IsAdded, AreSummed, AreSummedOf, IsSummedUp}
 use Rattle.disk_walk.specs.Whole.{OfWholeLogs}
 use Rattle.fitting_records.specs.Telling.{IsSummary}
 use Rattle.fitting_records.proofs.Joined.{AreJoined, emptied, joined_start, empty_start, joined_end, joined_on, none_left, greatest_with, greatest_none, noted_with, noted_at, noted_none}

@@ -9,7 +9,6 @@ use Rattle.log_record.specs.Changes.{is_drawn}
 use Rattle.disk_spots.specs.declared.spot.Spot.{Spot}
 use Rattle.disk_spots.specs.declared.spot.Spot.TheVariants as spot
 use Rattle.fitting_records.specs.declared.standing.Standing.{Standing}
-use Rattle.fitting_records.specs.declared.seen.Seen.{Seen}
 use Rattle.fitting_records.specs.Standings.{new_standing, may_take, after_body}
 
 abbrev pub Numbers : Type 0
@@ -17,6 +16,12 @@ Numbers = finite.FinMap nat_cmp Bool
 
 abbrev pub Standings : Type 0
 Standings = finite.FinMap nat_cmp Standing
+
+-- what the records so far say: the numbers that were drawn, the transactions of the logs before this one, and what the records of this log come to for each
+pub record Seen : Type 0 where
+  pub drawn : Numbers
+  pub elsewhere : Numbers
+  pub trans : Standings
 
 abbrev pub nothing_seen : Seen
 nothing_seen = record { drawn = finite.empty; elsewhere = finite.empty; trans = finite.empty }

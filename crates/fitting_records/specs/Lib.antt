@@ -3,7 +3,6 @@ pub mod Standings
 pub mod Fitting
 pub mod Passings
 pub mod Passed
-pub mod Walked
 pub mod Telling
 pub mod Summed
 pub mod Sought

@@ -8,18 +8,13 @@ mod laws;
 mod passing;
 mod ranged;
 mod ranges;
-mod search;
-mod seen;
 mod spots;
 mod standing;
 mod summary;
 mod sums;
-mod walked;
 
 pub use laws::passing_laws;
 pub use passing::Passing;
 pub use ranges::find_first_unfit;
-pub use search::find_unfit;
 pub use spots::{find_drawn, find_number};
 pub use summary::{Summary, summarize};
-pub use walked::{Walked, pass_logs};

@@ -2,10 +2,9 @@
 
 ghost use Rattle.std.specs.Prelude.{◌≡◌, not, ◌&&◌, ◌||◌, None, OnOk};
 ghost use Rattle.std.specs.FinMap as finite;
-ghost use Rattle.fitting_records.specs.Fitting.{follows_on};
+ghost use Rattle.fitting_records.specs.Fitting.{is_first, follows_on, with_tran};
 ghost use Rattle.fitting_records.specs.Ranges.{is_in, nothing_in, is_new_in, is_home_in, fits_in, drawn_with, homes_with, trans_with, entered, tried_when, least_with, next_with, noted, range_with, left_behind, is_sooner, sooner};
 
-use crate::seen::{enter_tran, is_first};
 use crate::standing::Standing;
 use ds_base::{MemberId, NoMemory};
 use ds_model::LogRecord;
@@ -49,6 +48,30 @@ impl NumberRange {
     {
         self.from <= number && number < self.to
     }
+}
+
+// Whether the record belongs to no transaction or has the number of its own.
+fn is_first(it: &LogRecord) -> bool
+    ensures { result ≡ is_first it.now }
+{
+    it.tran.number() == 0 || it.lrsn.number() == it.tran.number()
+}
+
+// Goes on with the record's transaction.
+#[tactic(auto, using(number_map::proofs::Maps::put_back))]
+fn enter_tran(
+    alloc: Global,
+    trans: &mut NumberMap<Standing>,
+    it: &LogRecord,
+) -> Result<(), NoMemory>
+    ensures { OnOk result (trans.new ≡ with_tran trans.old it.now) }
+{
+    let mut standing = match trans.take(it.tran) {
+        Some(standing) => standing,
+        None => Standing::new(alloc),
+    };
+    standing.enter(alloc, it)?;
+    trans.put(it.tran, standing)
 }
 
 fn enter_drawn(

@@ -1,5 +1,5 @@
 -- What is needed of pages is what the seventh clause of a sound disk says of them.
-use Rattle.std.proofs.Common.{◌≡◌, ℕ, Bool, true, false, cond, List, [], ◌∷◌, ◌++◌, length, map, Result, Ok, Err, OnOk, refl, sym, ap, ◌∙◌, arith}
+use Rattle.std.proofs.Common.{◌≡◌, ℕ, Bool, true, false, cond, List, [], ◌∷◌, ◌++◌, length, refl, sym, ap, ◌∙◌, arith}
 use Rattle.std.specs.Prelude.{◌==◌, nat_le, not, ◌||◌, ◌&&◌}
 use Rattle.std.specs.List.{list_all, flat_map}
 use Rattle.std.proofs.lemmas.Bool.Decides.{nat_tests}
@@ -13,12 +13,10 @@ use Rattle.page_format.specs.declared.patch.Patch.{Patch}
 use Rattle.page_images.specs.Images.{Images}
 use Rattle.page_chain.specs.Chains.{changes_of}
 use Rattle.page_redo.specs.Pages.{has_page, with_page, pages_from, pages_of}
-use Rattle.settled_changes.specs.Trans.{AreUnsettled}
 use Rattle.sound_disk.specs.Settled.{has_ended}
 use Rattle.sound_disk.specs.Checkpoints.{start_of, records_before, changes_pages, is_in_pages, is_done, AreCheckpointed}
-use Rattle.kept_checkpoints.specs.Offsets.{Places, OffsetsFit}
-use Rattle.kept_checkpoints.specs.declared.needs.Need.{Need}
-use Rattle.kept_checkpoints.specs.Needs.{need_of, is_unended, needs_by, needs_in, needs_of, is_met, unended_among, needs_among}
+use Rattle.kept_checkpoints.specs.Offsets.{OffsetsFit}
+use Rattle.kept_checkpoints.specs.Needs.{need_of, is_unended, needs_by, needs_in, needs_of, is_met}
 
 -- ---- tests
 
@@ -146,21 +144,3 @@ they_tell at [] o h = tt
 they_tell at (l ∷ ls) o h =
     let both = sym (list_all-append (is_met at) (needs_in l.records) (needs_of ls)) ∙ h in
     (record { offsets = o.0; before = sym (met_log at l) ∙ and_left _ _ both }, they_tell at ls o.1 (and_right (list_all (is_met at) (needs_in l.records)) _ both))
-
--- ---- the transactions that are open as a set
-
-unended_same : (trans : Places) (records : List LogRecord) (r : LogRecord) → AreUnsettled records trans → unended_among trans r ≡ is_unended records r
-unended_same trans records r h = ap (λ (b : Bool). not (r.tran == 0) && b) (h r.tran) ∙ sym (not_or (r.tran == 0) (has_ended records r.tran))
-
-needs_same : (trans : Places) (records rs : List LogRecord) → AreUnsettled records trans → flat_map (needs_among trans) rs ≡ flat_map (needs_by records) rs
-needs_same trans records [] h = refl
-needs_same trans records (r ∷ rs) h =
-    ap (λ (b : Bool). map (need_of b r.lrsn) (pages_of r) ++ flat_map (needs_among trans) rs) (unended_same trans records r h)
-    ∙ ap (λ (ns : List Need). needs_by records r ++ ns) (needs_same trans records rs h)
-
-pub add_same : {A E : Type 0} (records : List LogRecord) (trans : Places) (upto : ℕ) (old new : List Need) (result : Result A E) → AreUnsettled records trans → upto ≡ start_of records
-    → OnOk result (new ≡ old ++ flat_map (needs_among trans) (records_before upto 0 records)) → OnOk result (new ≡ old ++ needs_in records)
-add_same records trans upto old new (Ok x) h u e =
-    e ∙ ap (λ (n : ℕ). old ++ flat_map (needs_among trans) (records_before n 0 records)) u
-    ∙ ap (λ (ns : List Need). old ++ ns) (needs_same trans records (records_before (start_of records) 0 records) h)
-add_same records trans upto old new (Err x) h u e = tt

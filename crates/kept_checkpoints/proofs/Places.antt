@@ -1,5 +1,5 @@
 -- Places as a set of numbers, and where all offsets fit.
-use Rattle.std.proofs.Common.{◌≡◌, ℕ, Bool, true, false, cond, List, [], ◌∷◌, ◌++◌, Option, Some, None, Result, Ok, Err, IfOk, IfSome, IfNone, refl, sym, ap, ◌∙◌, arith}
+use Rattle.std.proofs.Common.{◌≡◌, ℕ, Bool, true, false, cond, List, [], ◌∷◌, ◌++◌, Option, Some, None, refl, sym, ap, ◌∙◌, arith}
 use Rattle.std.specs.Prelude.{◌==◌, ◌||◌, ◌&&◌, is_some}
 use Rattle.std.specs.List.{list_any}
 use Rattle.std.specs.Ordering.{nat_cmp, eq_by_cmp}
@@ -114,14 +114,3 @@ one_spot [] s h fit = absurd cc
 one_spot (log ∷ logs) s h fit =
     spot_behind (bad_spot logs) log.member (bad_offset log.records) s (offsets_fit [] 0 log.records ≡ true) (OffsetsFit logs)
     (λ n e. not_both (offsets_fit [] 0 log.records) (one_misfits [] 0 n log.records e)) (λ e. one_spot logs s e) h fit.0 fit.1
-
-pub told_fit : {E : Type 0} (logs : List Log) (result : Result (Option Spot) E) → IfOk result (λ found. found ≡ bad_spot logs) → IfOk result (λ found. IfNone found (OffsetsFit logs))
-told_fit logs (Ok None) h = no_spot logs (sym h)
-told_fit logs (Ok (Some s)) h = tt
-told_fit logs (Err e) h = tt
-
-pub told_bad : {E : Type 0} (logs : List Log) (result : Result (Option Spot) E) → IfOk result (λ found. found ≡ bad_spot logs)
-    → IfOk result (λ found. IfSome found (λ spot. OffsetsFit logs → ⊥))
-told_bad logs (Ok None) h = tt
-told_bad logs (Ok (Some s)) h = one_spot logs s (sym h)
-told_bad logs (Err e) h = tt

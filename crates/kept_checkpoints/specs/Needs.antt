@@ -1,7 +1,6 @@
 -- What the records that a restart doesn't read again need of the pages of the disk.
-use Rattle.std.specs.Prelude.{◌≡◌, ℕ, nat_le, ◌==◌, Bool, true, not, ◌&&◌, ◌||◌, List, map, is_some}
+use Rattle.std.specs.Prelude.{◌≡◌, ℕ, nat_le, ◌==◌, Bool, true, not, ◌&&◌, ◌||◌, List, map}
 use Rattle.std.specs.List.{list_all, flat_map}
-use Rattle.std.specs.FinMap as finite
 use Rattle.ds_base.specs.declared.names.PageId.{PageId}
 use Rattle.ds_model.specs.declared.log.LogRecord.{LogRecord}
 use Rattle.log_record.specs.declared.log.Log.{Log}
@@ -10,7 +9,7 @@ use Rattle.page_images.specs.Images.{Images}
 use Rattle.page_redo.specs.Pages.{pages_of}
 use Rattle.sound_disk.specs.Settled.{has_ended}
 use Rattle.sound_disk.specs.Checkpoints.{start_of, records_before, AreCheckpointed}
-use Rattle.kept_checkpoints.specs.Offsets.{Places, OffsetsFit}
+use Rattle.kept_checkpoints.specs.Offsets.{OffsetsFit}
 use Rattle.kept_checkpoints.specs.declared.needs.Need.{Need}
 
 -- ---- by the definitions
@@ -36,14 +35,6 @@ needs_of logs = flat_map (λ (l : Log). needs_in l.records) logs
 -- the page has the record's change, and no row change of its transaction is open
 abbrev pub is_met : Images → Need → Bool
 is_met at n = nat_le n.lrsn (lrsn_of (at n.page)) && not n.is_open
-
--- ---- the same with the transactions that are open as a set
-
-abbrev pub unended_among : Places → LogRecord → Bool
-unended_among trans r = not (r.tran == 0) && is_some (finite.get trans r.tran)
-
-abbrev pub needs_among : Places → LogRecord → List Need
-needs_among trans r = map (need_of (unended_among trans r) r.lrsn) (pages_of r)
 
 -- ---- laws
 

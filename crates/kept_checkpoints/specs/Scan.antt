@@ -1,17 +1,12 @@
 -- What is known of a log behind its first records, so that the seventh clause of a sound disk is asked while it is read.
-use Rattle.std.specs.Prelude.{◌≡◌, ℕ, ◌-◌, ◌==◌, nat_le, nat_lt, Bool, true, false, not, ◌&&◌, ◌||◌, if◌then◌else◌, List, [], ◌∷◌, ◌++◌, length, map, take, slice_get, Option, None, Some, is_some}
-use Rattle.std.specs.List.{list_all}
+use Rattle.std.specs.Prelude.{ℕ, ◌-◌, ◌==◌, nat_le, Bool, true, false, ◌&&◌, if◌then◌else◌, List, [], ◌∷◌, ◌++◌, length, take, slice_get, Option, None, Some}
 use Rattle.std.specs.Ordering.{nat_cmp}
 use Rattle.std.specs.FinMap as finite
 use Rattle.ds_model.specs.declared.log.LogRecord.{LogRecord}
 use Rattle.ds_model.specs.declared.log.Body.{Body}
 use Rattle.ds_model.specs.declared.log.Body.TheVariants as body
-use Rattle.page_images.specs.Images.{Images}
-use Rattle.page_redo.specs.Pages.{pages_of}
-use Rattle.sound_disk.specs.Checkpoints.{next_place, offset_or, IsCheckpointed}
+use Rattle.sound_disk.specs.Checkpoints.{next_place, offset_or}
 use Rattle.kept_checkpoints.specs.Offsets.{Places}
-use Rattle.kept_checkpoints.specs.Needs.{need_of, is_met}
-use Rattle.kept_checkpoints.specs.declared.needs.Need.{Need}
 use Rattle.kept_checkpoints.specs.declared.scan.LogScan.{LogScan}
 
 -- ---- offsets
@@ -88,40 +83,3 @@ scanned s at r = record {
 abbrev pub scan_from : LogScan → ℕ → List LogRecord → LogScan
 scan_from s at [] = s
 scan_from s at (r ∷ rs) = scan_from (scanned s at r) (next_place at r) rs
-
--- ---- the second time
-
--- a record begins at this place
-abbrev pub met_at : LogScan → ℕ → LogScan
-met_at s at = record { start = s.start; fits = s.fits; offsets = finite.remove s.offsets at; changes = s.changes }
-
--- the offsets at which none of the records begins
-abbrev pub left_over : Places → ℕ → List LogRecord → Places
-left_over offsets at [] = offsets
-left_over offsets at (r ∷ rs) = left_over (finite.remove offsets at) (next_place at r) rs
-
--- what the record needs of the pages that it changes, among those of its log that leave these row changes open
-abbrev pub needs_open : Open → LogRecord → List Need
-needs_open changes r = map (need_of (is_some (finite.get changes r.tran)) r.lrsn) (pages_of r)
-
--- the record, which begins at this place, is read again or its needs are met
-abbrev pub may_be_left : Images → Open → ℕ → ℕ → LogRecord → Bool
-may_be_left at changes start place r = not (nat_lt place start) || list_all (is_met at) (needs_open changes r)
-
-abbrev pub may_all_be_left : Images → Open → ℕ → ℕ → List LogRecord → Bool
-may_all_be_left at changes start place [] = true
-may_all_be_left at changes start place (r ∷ rs) = may_be_left at changes start place r && may_all_be_left at changes start (next_place place r) rs
-
--- what both times find of the records of a log
-pub record IsKeptBy (at : Images) (s : LogScan) (left : Places) (records : List LogRecord) : Type 0 where
-  pub scan_is : s ≡ scan_from nothing_scanned 0 records
-  pub fits : s.fits ≡ true
-  pub left_is : left ≡ left_over s.offsets 0 records
-  pub none : left ≡ finite.empty
-  pub met : may_all_be_left at s.changes s.start 0 records ≡ true
-
--- ---- law
-
--- so the seventh clause holds for the log
-abbrev pub ScanTells : Type 0
-ScanTells = (at : Images) (s : LogScan) (left : Places) (records : List LogRecord) → IsKeptBy at s left records → IsCheckpointed at records

@@ -1,9 +1,8 @@
-ghost use Rattle.std.specs.Prelude.{◌≡◌, ◌-◌, ◌++◌, ◌∷◌, [], if◌then◌else◌, length, take, OnOk, IfOk};
+ghost use Rattle.std.specs.Prelude.{◌≡◌, ◌-◌, ◌++◌, ◌∷◌, [], if◌then◌else◌, length, take, OnOk};
 ghost use Rattle.std.specs.FinMap as finite;
 ghost use Rattle.sound_disk.specs.Checkpoints.{offset_or};
-ghost use Rattle.kept_checkpoints.specs.Scan.{is_behind, with_offset, numbers_of, is_last, taken_back, with_numbers, with_body, nothing_scanned, scanned, met_at, needs_open, ScanTells};
+ghost use Rattle.kept_checkpoints.specs.Scan.{is_behind, with_offset, numbers_of, is_last, taken_back, with_numbers, with_body, nothing_scanned, scanned};
 
-use crate::needs::{Need, needs_with};
 use crate::offsets::place_number;
 use crate::start::offset_or;
 use ds_base::{Lrsn, NoMemory, Sequence};
@@ -169,24 +168,4 @@ impl LogScan {
         add_offset(&mut self.offsets, &it.body)?;
         enter_body(alloc, &mut self.changes, it)
     }
-
-    /// A record begins at this place.
-    pub fn meet(&mut self, at: u64)
-        ensures { self.new ≡ met_at self.old at }
-    {
-        self.offsets.take(place_number(at));
-    }
-
-    /// What the record needs of pages, where it isn't read again.
-    pub fn needs(&self, alloc: Global, it: &LogRecord) -> Result<Sequence<Need>, NoMemory>
-        ensures { IfOk result (λ needs. needs ≡ needs_open self.now.changes it.now) }
-    {
-        needs_with(alloc, it, self.changes.get(it.tran).is_some())
-    }
 }
-
-/// Where all Checkpoints' offsets are places of records before, and all needs of records before the last one are met, the seventh
-/// clause of a sound disk holds for the log.
-pub fn scan_laws()
-    ensures { ScanTells }
-{}

@@ -1,9 +1,7 @@
 -- Where the seventh clause of a sound disk holds, and where it doesn't.
-use Rattle.std.proofs.Common.{◌≡◌, Bool, true, false, List, [], ◌∷◌, Option, None, Some, IfNone, is_some, sym, subst, inl, inr}
+use Rattle.std.proofs.Common.{◌≡◌, Bool, true, false, List, [], ◌∷◌, Option, None, Some, inl, inr}
 use Rattle.ds_base.specs.declared.names.PageId.{PageId}
 use Rattle.disk_spots.specs.declared.spot.Spot.{Spot}
-use Rattle.ds_disk.specs.Contents.{Contents, WhenTold}
-use Rattle.ds_disk.specs.Pages.{page_at}
 use Rattle.log_record.specs.declared.log.Log.{Log}
 use Rattle.page_images.specs.Images.{Images}
 use Rattle.sound_disk.specs.Checkpoints.{AreCheckpointed}
@@ -28,18 +26,5 @@ are_kept met tell at logs (Some id) o h = record {
   spot_is = inr (o, h);
 }
 
-pub kept_told : NeedsAreMet → NeedsTell → (before : Option Contents) (logs : List Log) (found : Option PageId) (spot : Option Spot) → spot ≡ page_spot found → OffsetsFit logs
-    → WhenTold before (λ (c : Contents). AreJudged (page_at c.pages) (needs_of logs) found) → WhenTold before (λ (c : Contents). AreKept (page_at c.pages) logs spot)
-kept_told met tell None logs found spot e o h = tt
-kept_told met tell (Some c) logs found spot e o h = subst (λ (s : Option Spot). AreKept (page_at c.pages) logs s) (sym e) (are_kept met tell (page_at c.pages) logs found o h)
-
 pub bad_kept : (at : Images) (logs : List Log) (s : Spot) → bad_spot logs ≡ Some s → (OffsetsFit logs → ⊥) → AreKept at logs (Some s)
 bad_kept at logs s e misfit = record { lacking = λ k. misfit (offsets_of at logs k); spot_is = inl e }
-
-pub bad_told : (before : Option Contents) (logs : List Log) (s : Spot) → bad_spot logs ≡ Some s → (OffsetsFit logs → ⊥) → WhenTold before (λ (c : Contents). AreKept (page_at c.pages) logs (Some s))
-bad_told None logs s e misfit = tt
-bad_told (Some c) logs s e misfit = record { lacking = λ k. misfit (offsets_of (page_at c.pages) logs k); spot_is = inl e }
-
-pub fit_of : (bad : Option Spot) (logs : List Log) → is_some bad ≡ false → IfNone bad (OffsetsFit logs) → OffsetsFit logs
-fit_of None logs e h = h
-fit_of (Some s) logs e h = absurd cc

@@ -1,6 +1,5 @@
 pub mod Judged
 pub mod Deciding
 pub mod Told
-pub mod Walking
 pub mod Telling
 pub mod Members

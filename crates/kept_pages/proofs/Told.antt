@@ -1,10 +1,7 @@
 -- What is told of pages that are read.
-use Rattle.std.proofs.Common.{◌≡◌, ℕ, Bool, true, false, List, [], ◌∷◌, ◌++◌, Option, Some, None, Result, Ok, Err, IfOk, refl, sym, ap, subst, ◌∙◌, arith}
-use Rattle.std.specs.Prelude.{nat_le, not, ◌==◌, ◌||◌, ◌&&◌}
-use Rattle.std.specs.List.{list_any, list_all}
-use Rattle.std.specs.List.Sorted.{IsPermutation}
+use Rattle.std.proofs.Common.{◌≡◌, ℕ, Bool, true, false, List, Option, Some, None, refl, ap, subst, ◌∙◌, arith}
+use Rattle.std.specs.Prelude.{nat_le, not, ◌==◌, ◌&&◌}
 use Rattle.std.proofs.lemmas.Bool.Decides.{nat_tests}
-use Rattle.std.proofs.lemmas.List.Sorted.{list_any-IsPermutation}
 use Rattle.ds_base.specs.Pages.{same_page}
 use Rattle.ds_base.specs.declared.names.PageId.{PageId}
 use Rattle.ds_disk.specs.Contents.{Contents, WhenTold, Becomes, Same}
@@ -13,23 +10,13 @@ use Rattle.page_format.specs.Fields.{lrsn_of}
 use Rattle.page_images.specs.Images.{Images}
 use Rattle.kept_checkpoints.specs.declared.needs.Need.{Need}
 use Rattle.kept_checkpoints.specs.Needs.{is_met}
-use Rattle.kept_pages.specs.Unmet.{has_unmet, AreJudged, judged_with, meets, is_seen, IsSeen}
-use Rattle.kept_pages.proofs.Judged.{judged_more}
+use Rattle.kept_pages.specs.Unmet.{meets, is_seen, IsSeen}
 
 pub same_on : (a b c : Option Contents) → Becomes a b Same → Becomes b c Same → Becomes a c Same
 same_on None b c h k = tt
 same_on (Some x) None c h k = absurd h
 same_on (Some x) (Some y) None h k = absurd k
 same_on (Some x) (Some y) (Some z) h k = k ∙ h
-
-pub judged_on : (start : Option Contents) (needs more : List Need) (n : Need) (first out : Option PageId) (met : Bool) (page : List ℕ) → more ≡ needs ++ n ∷ []
-    → out ≡ judged_with met first n.page → WhenTold start (λ (c : Contents). AreJudged (page_at c.pages) needs first)
-    → WhenTold start (λ (c : Contents). (met ≡ is_met (page_at c.pages) n) × (page ≡ page_at c.pages n.page))
-    → WhenTold start (λ (c : Contents). AreJudged (page_at c.pages) more out)
-judged_on None needs more n first out met page e o h k = tt
-judged_on (Some c) needs more n first out met page e o h k =
-    subst (λ (ns : List Need). AreJudged (page_at c.pages) ns out) (sym e)
-    (subst (λ (id : Option PageId). AreJudged (page_at c.pages) (needs ++ n ∷ []) id) (sym o) (judged_more (page_at c.pages) needs n first met k.0 h))
 
 -- ---- the page that was seen last
 
@@ -83,39 +70,3 @@ pub seen_next : (start : Option Contents) (n : Need) (page : List ℕ) (met : Bo
     → WhenTold start (λ (c : Contents). IsSeen (page_at c.pages) (Some n.page) page)
 seen_next None n page met h = tt
 seen_next (Some c) n page met h = h.1
-
--- ---- needs in another order
-
-all_or : (a b c : Bool) → b ≡ not c → (a && b) ≡ not (not a || c)
-all_or true b c h = h
-all_or false b c h = refl
-
-all_any : (at : Images) (needs : List Need) → list_all (is_met at) needs ≡ not (list_any (λ (n : Need). not (is_met at n)) needs)
-all_any at [] = refl
-all_any at (n ∷ ns) = all_or (is_met at n) (list_all (is_met at) ns) (list_any (λ (n : Need). not (is_met at n)) ns) (all_any at ns)
-
-all_sorted : (at : Images) (needs sorted : List Need) → IsPermutation needs sorted → list_all (is_met at) needs ≡ list_all (is_met at) sorted
-all_sorted at needs sorted p =
-    all_any at needs
-    ∙ ap (λ (b : Bool). not b) (list_any-IsPermutation (λ (n : Need). not (is_met at n)) needs sorted p)
-    ∙ sym (all_any at sorted)
-
-unmet_sorted : (at : Images) (needs sorted : List Need) (id : PageId) → IsPermutation needs sorted → has_unmet at needs id ≡ has_unmet at sorted id
-unmet_sorted at needs sorted id p = list_any-IsPermutation (λ (n : Need). same_page n.page id && not (is_met at n)) needs sorted p
-
-judged_sorted : (at : Images) (needs sorted : List Need) (found : Option PageId) → IsPermutation needs sorted → AreJudged at sorted found → AreJudged at needs found
-judged_sorted at needs sorted None p h = all_sorted at needs sorted p ∙ h
-judged_sorted at needs sorted (Some id) p h = record {
-  unmet = unmet_sorted at needs sorted id p ∙ h.unmet;
-  first = λ other before. unmet_sorted at needs sorted other p ∙ h.first other before;
-}
-
-judged_told : (before : Option Contents) (needs sorted : List Need) (found : Option PageId) → IsPermutation needs sorted
-    → WhenTold before (λ (c : Contents). AreJudged (page_at c.pages) sorted found) → WhenTold before (λ (c : Contents). AreJudged (page_at c.pages) needs found)
-judged_told None needs sorted found p h = tt
-judged_told (Some c) needs sorted found p h = judged_sorted (page_at c.pages) needs sorted found p h
-
-pub sorted_told : {E : Type 0} (before : Option Contents) (needs sorted : List Need) (result : Result (Option PageId) E) → IsPermutation needs sorted
-    → IfOk result (λ found. WhenTold before (λ (c : Contents). AreJudged (page_at c.pages) sorted found)) → IfOk result (λ found. WhenTold before (λ (c : Contents). AreJudged (page_at c.pages) needs found))
-sorted_told before needs sorted (Ok found) p h = judged_told before needs sorted found p h
-sorted_told before needs sorted (Err e) p h = tt

@@ -1,5 +1,4 @@
 pub mod Unmet
 pub mod Reading
 pub mod Unkept
-pub mod Walking
 pub mod Exact

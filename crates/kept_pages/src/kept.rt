@@ -9,7 +9,7 @@ ghost use Rattle.kept_checkpoints.specs.Recheck.{begun};
 ghost use Rattle.kept_pages.specs.Exact.{IsScan, IsRechecked, AreNeedsJudged, IsLogTold};
 ghost use Rattle.kept_pages.specs.Unkept.{page_spot, IsKeptTold};
 
-use crate::unkept::page_spot;
+use crate::spot::page_spot;
 use crate::unmet::judge_more;
 use disk_spots::Spot;
 use disk_walk::next_of_log;

@@ -3,11 +3,7 @@
 
 mod first;
 mod kept;
-mod unkept;
+mod spot;
 mod unmet;
-mod walk;
 
 pub use kept::find_first_unkept;
-pub use unkept::find_unkept;
-pub use unmet::find_unmet;
-pub use walk::are_kept;

@@ -1,17 +1,15 @@
-ghost use Rattle.std.specs.Prelude.{◌≡◌, IfOk};
-ghost use Rattle.std.specs.List.Sorted.{IsPermutation};
+ghost use Rattle.std.specs.Prelude.{◌≡◌};
 ghost use Rattle.ds_disk.specs.Pages.{page_at};
 ghost use Rattle.kept_checkpoints.specs.Needs.{is_met};
 ghost use Rattle.kept_pages.specs.Exact.{Judges};
 ghost use Rattle.kept_pages.specs.Reading.{Reads};
-ghost use Rattle.kept_pages.specs.Unmet.{AreJudged, IsSeen};
+ghost use Rattle.kept_pages.specs.Unmet.{IsSeen};
 
 use crate::first::{is_seen, judged_with, meets};
-use ds_base::{NoMemory, PageId};
+use ds_base::PageId;
 use ds_disk::{Disk, DiskError};
 use kept_checkpoints::Need;
 use page_format::Page;
-use std::alloc::Global;
 
 fn load<D: Disk>(disk: &mut D, page: &mut Page, id: PageId) -> Result<(), DiskError>
     ensures { Reads (D.contents disk.old) (D.contents disk.new) (D.faults disk.old) (D.faults disk.new) (λ _ c. page.new ≡ page_at c.pages id) result }
@@ -49,25 +47,6 @@ fn is_met<D: Disk>(
     Ok(meets(page, need))
 }
 
-/// The first page that doesn't meet one of these needs, which are looked at in their order; a page that comes again at once is
-/// read once.
-pub fn judge<D: Disk>(
-    disk: &mut D,
-    page: &mut Page,
-    needs: &[Need],
-) -> Result<Option<PageId>, DiskError>
-    ensures { Reads (D.contents disk.old) (D.contents disk.new) (D.faults disk.old) (D.faults disk.new) (λ found c. AreJudged (page_at c.pages) needs.now found) result }
-{
-    let mut first = None;
-    let mut seen = None;
-    for need in needs {
-        let met = is_met(disk, page, seen, need)?;
-        first = judged_with(met, first, need.page);
-        seen = Some(need.page);
-    }
-    Ok(first)
-}
-
 /// The first page that doesn't meet a need so far, with these needs more, which are looked at in their order; a page that comes again
 /// at once is read once.
 pub fn judge_more<D: Disk>(
@@ -86,37 +65,4 @@ pub fn judge_more<D: Disk>(
         seen = Some(need.page);
     }
     Ok(found)
-}
-
-fn by_page(alloc: Global, needs: &[Need]) -> Result<Vec<Need>, NoMemory>
-    ensures { IfOk result (λ sorted. IsPermutation needs.now sorted.items) }
-{
-    let mut sorted = Vec::from_slice(alloc, needs)?;
-    sorted.sort_by_key(|need| need.page)?;
-    Ok(sorted)
-}
-
-fn judge_sorted<D: Disk>(
-    alloc: Global,
-    disk: &mut D,
-    needs: &[Need],
-) -> Result<Option<PageId>, DiskError>
-    ensures { Reads (D.contents disk.old) (D.contents disk.new) (D.faults disk.old) (D.faults disk.new) (λ found c. AreJudged (page_at c.pages) needs.now found) result }
-{
-    let mut page = Page::zero(alloc)?;
-    judge(disk, &mut page, needs)
-}
-
-/// The first page of the disk that doesn't meet one of these needs, by page set and then by number.
-///
-/// Each page is read once, in that order. Beside this it takes time in the number of needs times its logarithm.
-pub fn find_unmet<D: Disk>(
-    alloc: Global,
-    disk: &mut D,
-    needs: &[Need],
-) -> Result<Option<PageId>, DiskError>
-    ensures { Reads (D.contents disk.old) (D.contents disk.new) (D.faults disk.old) (D.faults disk.new) (λ found c. AreJudged (page_at c.pages) needs.now found) result }
-{
-    let sorted = by_page(alloc, needs)?;
-    judge_sorted(alloc, disk, &sorted)
 }

@@ -1,5 +1,5 @@
--- The greatest number of records is that of one of them.
-use Rattle.std.proofs.Common.{◌≡◌, ◌≢◌, ℕ, ◌+◌, max, Bool, true, false, cond, List, [], ◌∷◌, ◌++◌, length, Option, Some, None, Result, Ok, Err, IfOk, IfNone, refl, sym, ap, subst, ◌∙◌, arith}
+-- Where too few numbers are left, a record has the greatest one.
+use Rattle.std.proofs.Common.{◌≡◌, ◌≢◌, ℕ, ◌+◌, Bool, true, false, cond, List, [], ◌∷◌, length, Option, Some, None, refl, sym, ap, subst, ◌∙◌, arith}
 use Rattle.std.specs.Prelude.{◌==◌, ◌||◌}
 use Rattle.std.specs.List.{list_any}
 use Rattle.std.proofs.lemmas.Bool.Decides.{nat_tests}
@@ -14,11 +14,7 @@ use Rattle.disk_spots.specs.declared.spot.Spot.TheVariants as spot
 use Rattle.disk_spots.specs.Spots.{place_from, or_behind, spot_of}
 use Rattle.ds_base.specs.Ids.{IsLrsn}
 use Rattle.sound_disk.specs.Numbers_left.{open_changes, NumbersAreLeft}
-use Rattle.settled_changes.specs.Spots.{AreNumbersTold, NumbersTell}
-
-pub greatest_more : (xs ys : List LogRecord) → greatest (xs ++ ys) ≡ max (greatest xs) (greatest ys)
-greatest_more [] ys = omega arith
-greatest_more (x ∷ xs) ys = let ih = greatest_more xs ys in omega (arith, ih)
+use Rattle.settled_changes.specs.Spots.{NumbersTell}
 
 -- ---- a number that no record has
 
@@ -72,17 +68,11 @@ not_found n (log ∷ logs) h =
 abbrev needed : List LogRecord → ℕ
 needed rs = greatest rs + length (open_changes rs)
 
-pub found : (logs : List Log) → spot_of (greatest (all_records logs)) logs ≡ None → NumbersAreLeft logs
+found : (logs : List Log) → spot_of (greatest (all_records logs)) logs ≡ None → NumbersAreLeft logs
 found logs h =
     let e : all_records logs ≡ [] = none_is (greatest (all_records logs)) (all_records logs) refl (not_found (greatest (all_records logs)) logs h) in
     let none : needed (all_records logs) ≡ 0 = ap needed e in
     omega (arith, none)
-
-pub told_left : {E : Type 0} (logs : List Log) (n : ℕ) (result : Result (Option Spot) E) → n ≡ greatest (all_records logs) → IfOk result (λ spot. spot ≡ spot_of n logs)
-    → IfOk result (λ spot. IfNone spot (NumbersAreLeft logs))
-told_left logs n (Ok None) is h = found logs (ap (λ (m : ℕ). spot_of m logs) (sym is) ∙ sym h)
-told_left logs n (Ok (Some s)) is h = tt
-told_left logs n (Err e) is h = tt
 
 lacks : (logs : List Log) (great count : ℕ) → great ≡ greatest (all_records logs) → count ≡ length (open_changes (all_records logs)) → (IsLrsn (great + count) → ⊥) → NumbersAreLeft logs → ⊥
 lacks logs great count great_is count_is none h =

@@ -1,4 +1,1 @@
-pub mod Counts
 pub mod Lasts
-pub mod Open
-pub mod Remaining

@@ -1,4 +1,2 @@
 pub mod Left
-pub mod Marks
 pub mod Spots
-pub mod Trans

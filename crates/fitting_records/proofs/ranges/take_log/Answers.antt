@@ -1,9 +1,7 @@
-use Rattle.std.proofs.Common.{◌≡◌, ℕ, ◌+◌, List, ◌∷◌, length, ap, ◌∙◌, refl}
+use Rattle.std.proofs.Common.{List, refl}
 use Rattle.ds_model.specs.declared.log.LogRecord.{LogRecord}
-use Rattle.ds_model.specs.RecordBytes.{record_bytes}
 use Rattle.disk_walk.proofs.One.{walk_starts, walk_more, walk_ends, sound_start, sound_some}
-use Rattle.fitting_records.specs.declared.ranged.RangeSeen.{RangeSeen}
-use Rattle.fitting_records.specs.Ranges.{range_from, range_with}
+use Rattle.fitting_records.specs.Ranges.{range_from}
 use Rattle.fitting_records.proofs.Rangeon.{take_more, walked_all}
 use Rattle.fitting_records.proofs.ranges.take_log.Goals as goal
 

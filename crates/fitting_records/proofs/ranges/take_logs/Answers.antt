@@ -1,7 +1,7 @@
-use Rattle.std.proofs.Common.{ℕ, ◌+◌, List, refl, ap, arith}
+use Rattle.std.proofs.Common.{◌+◌, List, refl, arith}
 use Rattle.ds_model.specs.declared.log.LogRecord.{LogRecord}
 use Rattle.log_record.specs.declared.log.Log.{Log}
-use Rattle.disk_walk.proofs.Whole.{logs_start, logs_more, logs_end}
+use Rattle.disk_walk.proofs.Whole.{logs_more, logs_end}
 use Rattle.fitting_records.specs.Ranges.{nothing_in, range_among}
 use Rattle.fitting_records.specs.Ranging.{IsRangedFrom}
 use Rattle.fitting_records.proofs.Members.{member_is}

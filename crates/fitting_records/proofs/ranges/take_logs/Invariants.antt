@@ -1,4 +1,4 @@
-use Rattle.std.proofs.Common.{◌≡◌, Ok}
+use Rattle.std.proofs.Common.{Ok}
 use Rattle.disk_walk.specs.Reading.{Reads}
 use Rattle.disk_walk.proofs.Whole.{LogsOn}
 use Rattle.fitting_records.specs.Ranges.{nothing_in, range_among}

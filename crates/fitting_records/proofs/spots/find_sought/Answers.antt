@@ -1,5 +1,4 @@
-use Rattle.std.proofs.Common.{ℕ, ◌+◌, List, Option, Some, None, refl, arith}
-use Rattle.ds_model.specs.declared.log.LogRecord.{LogRecord}
+use Rattle.std.proofs.Common.{◌+◌, List, Some, None, refl, arith}
 use Rattle.log_record.specs.declared.log.Log.{Log}
 use Rattle.disk_spots.specs.declared.spot.Spot.TheVariants as spot
 use Rattle.disk_walk.proofs.Whole.{logs_start, logs_more, logs_stop, logs_end}

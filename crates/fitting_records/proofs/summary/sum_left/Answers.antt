@@ -1,4 +1,4 @@
-use Rattle.std.proofs.Common.{◌≡◌, ◌≤◌, ◌∙◌, refl, arith}
+use Rattle.std.proofs.Common.{◌∙◌, refl, arith}
 use Rattle.disk_walk.proofs.Reading.{same_self, same_on}
 use Rattle.fitting_records.proofs.Summing.{sum_starts, sum_goes, sum_ends}
 use Rattle.fitting_records.proofs.summary.sum_left.Goals as goal

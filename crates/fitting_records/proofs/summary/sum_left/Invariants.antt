@@ -1,4 +1,4 @@
-use Rattle.std.proofs.Common.{◌≡◌, ℕ, ◌≤◌, length}
+use Rattle.std.proofs.Common.{◌≡◌, ◌≤◌, length}
 use Rattle.ds_disk.specs.Contents.{WhenTold, Becomes, Same}
 use Rattle.fitting_records.proofs.Summing.{SumsTo}
 use Rattle.fitting_records.proofs.summary.sum_left.Given as goal
